@@ -6,7 +6,7 @@ ghost use Rattle.all_summary.specs.Masks.{no_children, of_letter, joined, acts, 
 use content_models::AllState;
 
 /// What some children do to the state of an `all` (Structures 3.8.4).
-#[derive(Clone, Copy, Debug, PartialEq, Eq)]
+#[derive(Clone, Copy, PartialEq)]
 pub struct AllMap {
     /// The members that the children are of, as the bits of a number.
     pub adds: u64,

@@ -5,7 +5,7 @@ ghost use Rattle.assess_records.specs.declared.counts.ChildCounts.{ChildCounts};
 use crate::{Attempted, Validity};
 
 /// How many child elements of an element have each validity, and each attempt at validation.
-#[derive(Clone, Copy, Debug, PartialEq, Eq)]
+#[derive(Clone, Copy)]
 pub struct ChildCounts {
     pub valid: u32,
     pub invalid: u32,

@@ -12,7 +12,7 @@ use xs_names::{NameId, Names, NsId, Text};
 pub const INSTANCE_NAMESPACE: &str = "http://www.w3.org/2001/XMLSchema-instance";
 
 /// An attribute that any element may have.
-#[derive(Clone, Copy, Debug, PartialEq, Eq)]
+#[derive(Clone, Copy, PartialEq)]
 pub enum InstanceAttribute {
     /// `xsi:type` (Structures 2.6.1).
     TypeName,

@@ -1,5 +1,5 @@
 /// Whether an element or attribute is valid: the property [validity] (Structures 3.2.5, 3.3.5).
-#[derive(Clone, Copy, Debug, PartialEq, Eq)]
+#[derive(Clone, Copy, PartialEq)]
 pub enum Validity {
     Valid,
     Invalid,
@@ -7,7 +7,7 @@ pub enum Validity {
 }
 
 /// How far an element or attribute was assessed: the property [validation attempted] (Structures 3.2.5, 3.3.5).
-#[derive(Clone, Copy, Debug, PartialEq, Eq)]
+#[derive(Clone, Copy, PartialEq)]
 pub enum Attempted {
     Full,
     Partial,
@@ -16,7 +16,7 @@ pub enum Attempted {
 }
 
 /// Where the text of an element or attribute comes from: the property [schema specified] (Structures 3.2.5, 3.3.5).
-#[derive(Clone, Copy, Debug, PartialEq, Eq)]
+#[derive(Clone, Copy)]
 pub enum ValueSource {
     /// From the document.
     Given,

@@ -8,7 +8,7 @@ use xs_names::NameId;
 pub type Codes = Listed<Found>;
 
 /// What is found out about an element (Structures 3.3.5).
-#[derive(Debug, Drop)]
+#[derive(Drop)]
 pub struct ElementRecord {
     pub name: NameId,
     /// The governing type.
@@ -20,7 +20,7 @@ pub struct ElementRecord {
 }
 
 /// What is found out about an attribute (Structures 3.2.5).
-#[derive(Debug, Drop)]
+#[derive(Drop)]
 pub struct AttrRecord {
     pub name: NameId,
     /// The governing type.

@@ -3,7 +3,7 @@ use xs_lists::Listed;
 use xs_names::{NameId, Scope, Text};
 
 /// An attribute of an element: its name, and the text of its value.
-#[derive(Debug, Drop)]
+#[derive(Drop)]
 pub struct NamedText {
     pub name: NameId,
     pub text: Text,
@@ -13,7 +13,7 @@ pub struct NamedText {
 pub type NamedTextList = Listed<NamedText>;
 
 /// What an element has to show for its record, beside what governs it.
-#[derive(Debug, Drop)]
+#[derive(Drop)]
 pub struct ElementShape {
     pub name: NameId,
     /// Its attributes in document order; bindings are none.

@@ -7,7 +7,7 @@ use std::alloc::{AllocError, Global};
 use xs_components::TermId;
 
 /// What the content model of an element says of its child elements (Structures 3.4.4).
-#[derive(Debug, Drop)]
+#[derive(Drop)]
 pub struct ChildTerms {
     /// The place where they get stuck: that of the first child with which they begin no word of the content model; their
     /// number where all begin one but are none; `None` where they are a word.

@@ -24,7 +24,7 @@ use xs_names::Scope;
 pub type AttrValues = Listed<Option<Value>>;
 
 /// What is found out about an element's attributes.
-#[derive(Debug, Drop)]
+#[derive(Drop)]
 pub struct AssessedAttrs {
     /// The records: of the attributes that the element has in document order, then of those that are added, by namespaces,
     /// the absent one first, and then by local names.

@@ -19,7 +19,7 @@ use xs_components::{AttributeId, Process, TypeId};
 use xs_names::NameId;
 
 /// What governs an attribute (Structures 3.2.4, 3.4.4).
-#[derive(Clone, Copy, Debug, PartialEq, Eq)]
+#[derive(Clone, Copy)]
 pub enum AttrGoverning {
     /// It is one of the four of the namespace of schema instances, of this type.
     Instance(Builtin),

@@ -29,7 +29,7 @@ pub struct AttrItem<'a> {
 }
 
 /// What is found out about an attribute, and the value of its text, where this is valid by the type of its declaration.
-#[derive(Debug, Drop)]
+#[derive(Drop)]
 pub struct JudgedAttr {
     pub known: AttrRecord,
     pub value: Option<Value>,

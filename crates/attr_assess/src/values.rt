@@ -15,7 +15,7 @@ use xs_components::{TypeId, ValueConstraint};
 use xs_names::Scope;
 
 /// What the text of an attribute comes to.
-#[derive(Debug, Drop)]
+#[derive(Drop)]
 pub enum AttrText {
     /// It is not valid, for this code.
     Invalid(Code),

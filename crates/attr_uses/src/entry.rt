@@ -2,7 +2,7 @@ ghost use Rattle.std.specs.Prelude.{◌≡◌};
 ghost use Rattle.attr_uses.specs.Entries as entries;
 
 /// The component in which an attribute use is written, by its number in its table.
-#[derive(Clone, Copy, Debug, PartialEq, Eq)]
+#[derive(Clone, Copy)]
 pub enum UseHolder {
     /// A complex type.
     Complex(u32),
@@ -11,14 +11,14 @@ pub enum UseHolder {
 }
 
 /// Where an attribute use is written: the component, and the place among its own uses, counted from 0.
-#[derive(Clone, Copy, Debug, PartialEq, Eq)]
+#[derive(Clone, Copy)]
 pub struct UseAt {
     pub holder: UseHolder,
     pub place: usize,
 }
 
 /// What a map has for a name.
-#[derive(Clone, Copy, Debug, PartialEq, Eq)]
+#[derive(Clone, Copy)]
 pub struct Entry {
     /// The first use of the name.
     pub first: UseAt,

@@ -4,7 +4,7 @@ ghost use Rattle.attr_uses.specs.Entries as entries;
 use crate::Entry;
 
 /// How two maps are made one, name by name.
-#[derive(Clone, Copy, Debug, PartialEq, Eq)]
+#[derive(Clone, Copy)]
 pub enum Join {
     /// The uses of the first, and then those of the second.
     Union,

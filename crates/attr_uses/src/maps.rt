@@ -11,13 +11,13 @@ use std::alloc::{AllocError, Global};
 use std::marker::Model;
 
 /// A map of an arena.
-#[derive(Clone, Copy, Debug, PartialEq, Eq)]
+#[derive(Clone, Copy)]
 pub struct UseMap {
     pub(crate) top: u32,
 }
 
 /// Maps from the numbers of names to entries. Each is as it was made; a new one shares the parts that are alike.
-#[derive(Debug, Drop)]
+#[derive(Drop)]
 pub struct UseMaps {
     // How many times the numbers are halved.
     pub(crate) depth: u32,

@@ -4,7 +4,7 @@ ghost use Rattle.attr_uses.specs.Nodes as spec;
 use crate::Entry;
 
 /// What is true of some entry below a node.
-#[derive(Clone, Copy, Debug, PartialEq, Eq)]
+#[derive(Clone, Copy)]
 pub(crate) struct Sum {
     pub needed: bool,
     pub double: bool,
@@ -14,7 +14,7 @@ pub(crate) struct Sum {
 }
 
 /// A node: nothing, the entry of one name, or two parts of which the first has the lower half of the names.
-#[derive(Clone, Copy, Debug, PartialEq, Eq)]
+#[derive(Clone, Copy)]
 pub(crate) enum Node {
     Empty,
     Leaf(Entry),

@@ -14,7 +14,7 @@ use xs_components::{Components, NsConstraint, Process, Wildcard};
 use xs_lists::Listed;
 
 /// The table of one type or of one attribute group, among those that are kept together.
-#[derive(Clone, Copy, Debug, PartialEq, Eq)]
+#[derive(Clone, Copy)]
 pub struct KeptTable {
     pub(crate) uses: UseMap,
     pub(crate) prohibited: UseMap,
@@ -22,7 +22,7 @@ pub struct KeptTable {
 }
 
 // The maps and the wildcards of all tables.
-#[derive(Debug, Drop)]
+#[derive(Drop)]
 pub(crate) struct Store {
     pub maps: UseMaps,
     pub wildcards: Listed<Wildcard>,

@@ -21,7 +21,7 @@ use xs_names::NameId;
 
 /// The attribute uses and the attribute wildcards of all complex types and attribute groups of a schema set. A table shares
 /// with that of its base what is alike.
-#[derive(Debug, Drop)]
+#[derive(Drop)]
 pub struct AttrTables {
     pub(crate) store: Store,
     pub(crate) groups: Listed<Answer>,
@@ -29,7 +29,7 @@ pub struct AttrTables {
 }
 
 /// The table of one type or of one attribute group, alone.
-#[derive(Debug, Drop)]
+#[derive(Drop)]
 pub struct AttrTable {
     /// The tables that it stands among.
     pub tables: AttrTables,

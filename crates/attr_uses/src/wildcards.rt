@@ -13,7 +13,7 @@ use std::alloc::{AllocError, Global};
 use xs_components::{NsConstraint, Wildcard};
 
 // How the namespaces of two wildcards are made one.
-#[derive(Clone, Copy, Debug, PartialEq, Eq)]
+#[derive(Clone, Copy)]
 pub(crate) enum Joining {
     Intersection,
     Union,

@@ -1,7 +1,7 @@
 use crate::Touched;
 
 /// An edit, undo or redo that was accepted.
-#[derive(Clone, Copy, Debug, PartialEq, Eq)]
+#[derive(Clone, Copy)]
 pub struct Turn {
     /// The revision that it made.
     pub revision: u64,

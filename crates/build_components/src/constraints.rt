@@ -12,7 +12,7 @@ use xs_lists::Listed;
 use xs_names::NameId;
 
 /// The numbers of identity constraints by place: those that keyrefs may refer to, and those of keyrefs.
-#[derive(Debug, Drop)]
+#[derive(Drop)]
 pub struct ConstraintNumbers {
     /// Of keys and uniques.
     pub keys: Listed<Option<ConstraintId>>,

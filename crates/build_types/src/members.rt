@@ -13,7 +13,7 @@ use xs_lists::Listed;
 use xs_names::NameId;
 
 /// The attributes that stand in a complex type or an attribute group (Structures 3.4.2, 3.6.2).
-#[derive(Debug, Drop)]
+#[derive(Drop)]
 pub struct AttributeParts {
     pub uses: AttrUseList,
     /// The attribute groups that are referred to.

@@ -132,6 +132,14 @@ module _ (c : Compiled) (ns : Nodes) (old new : KeptState) (p : ℕ) (k : KeptEl
     | inr other ↦ ap (λ (x : KeptElement). x.found.governing) (other-kept m other)
   ]
 
+  pub identity-stays : (m : ℕ) → (kept_at new.records.slots m).identity ≡ (kept_at old.records.slots m).identity
+  identity-stays m = elim (cases_eq m p) [
+    | inl e ↦
+        ap (λ k. (kept_at new.records.slots k).identity) e ∙ ap (λ (x : KeptElement). x.identity) kept-now ∙ sym (ap (λ (x : KeptElement). x.identity) kept-was)
+        ∙ ap (λ k. (kept_at old.records.slots k).identity) (sym e)
+    | inr other ↦ ap (λ (x : KeptElement). x.identity) (other-kept m other)
+  ]
+
   pub made-stays : (m : ℕ) → IsMade old.records.slots m → IsMade new.records.slots m
   made-stays m made = elim (cases_eq m p) [
     | inl e ↦ (again, ap (at new.records.slots) e ∙ rewrites.slots.here)

@@ -15,7 +15,7 @@ ghost use Rattle.doc_documents.specs.Readers.{name_at};
 ghost use Rattle.kept_slots.specs.Slots.{at as slot_at};
 ghost use Rattle.child_listing.specs.from_kept_records.Books.{HaveOwnLists};
 ghost use Rattle.child_listing.specs.from_kept_records.Fit.{models_of};
-ghost use Rattle.child_listing.specs.from_kept_records.Slots.{IsMade, pair_at};
+ghost use Rattle.child_listing.specs.from_kept_records.Slots.{IsMade, kept_at, pair_at};
 ghost use Rattle.child_listing.specs.from_kept_state.Kept.{CanGovern, IsBeside};
 ghost use Rattle.child_listing.specs.from_kept_state.KeptChildren.{KeptChildren as KeptChildrenData};
 ghost use Rattle.child_listing.specs.from_kept_judging.Judged.{pair_by};
@@ -179,6 +179,7 @@ pub fn note_stuck<L: Ledger>(
     ensures pair { pair_at kept.new.records.slots parent ≡ pair_at kept.old.records.slots parent }
     ensures counted { (children : List ℕ) → AreCounted kept.old parent children → AreCounted kept.new parent children }
     ensures rest { (n : ℕ) → n ≢ parent → slot_at kept.new.records.slots n ≡ slot_at kept.old.records.slots n }
+    ensures identity { (n : ℕ) → (kept_at kept.new.records.slots n).identity ≡ (kept_at kept.old.records.slots n).identity }
     ensures least { steps.old ≤ steps.new }
     ensures steps { steps.new ≤ steps.old + (8 * (bits (length (element_children doc.now parent) + 1) + 1) + 1) }
 {

@@ -15,7 +15,7 @@ use child_listing::kept_state::KeptState;
 use model_lists::ModelList;
 
 /// A child element, with its parent and its place among the child elements.
-#[derive(Clone, Copy, Debug, PartialEq, Eq)]
+#[derive(Clone, Copy)]
 pub struct ChildPlace {
     pub parent: u32,
     pub place: u32,

@@ -14,7 +14,7 @@ use xs_components::TermId;
 use xsv_steps::{Ledger, Steps};
 
 /// What a content model says of child elements (Structures 3.4.4).
-#[derive(Debug, Drop)]
+#[derive(Drop)]
 pub struct Attribution {
     /// The place where they get stuck.
     pub stuck: Option<u32>,

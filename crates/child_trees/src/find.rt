@@ -8,7 +8,7 @@ use crate::tops::Tops;
 use leaf_trees::Trees;
 
 /// The list of an item, the top of the list's tree, and the item's place in the list.
-#[derive(Clone, Copy, Debug, PartialEq, Eq)]
+#[derive(Clone, Copy)]
 pub struct Location {
     pub list: u32,
     pub top: u32,

@@ -7,7 +7,7 @@ use std::alloc::{AllocError, Global};
 use std::marker::Model;
 
 /// The number of a list. Contracts see the number.
-#[derive(Clone, Copy, Debug, PartialEq, Eq)]
+#[derive(Clone, Copy)]
 pub struct SeqId {
     pub(crate) number: u32,
 }
@@ -35,7 +35,7 @@ impl SeqId {
 ///
 /// It serves as an index: it is below the count of slots that `Seqs::slots` tells, and of these all but the free ones are taken,
 /// `2 * n - 1` by a list of `n` leaves. A number whose leaf went may be given to a later leaf.
-#[derive(Clone, Copy, Debug, PartialEq, Eq)]
+#[derive(Clone, Copy, PartialEq)]
 pub struct ItemId {
     pub(crate) number: u32,
 }
@@ -60,7 +60,7 @@ impl ItemId {
 }
 
 /// A leaf of a list. No letter stands for the unit of the summary.
-#[derive(Clone, Copy, Debug, PartialEq, Eq, Drop)]
+#[derive(Clone, Copy, Drop)]
 pub struct Leaf<T> {
     pub letter: Option<T>,
     /// Whether it is counted by `elements_upto`.

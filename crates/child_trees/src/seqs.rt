@@ -19,7 +19,7 @@ use std::marker::Model;
 use xsv_steps::{Ledger, Steps};
 
 /// Slots, which hold the leaves of lists and the forks of their trees.
-#[derive(Clone, Copy, Debug, PartialEq, Eq)]
+#[derive(Clone, Copy, Debug, PartialEq)]
 pub struct Slots {
     /// How many there are. The number of every item is below it.
     pub count: usize,

@@ -6,7 +6,7 @@ use std::alloc::{AllocError, Global};
 use std::marker::Model;
 
 /// What a number stands for.
-#[derive(Clone, Copy, Debug, PartialEq, Eq)]
+#[derive(Clone, Copy)]
 pub enum Slot {
     /// A list, with the top of its tree, or none where it is empty.
     Taken(Option<u32>),
@@ -15,7 +15,7 @@ pub enum Slot {
 }
 
 /// The lists by number. A number that came free is given out again.
-#[derive(Debug, Drop)]
+#[derive(Drop)]
 pub struct Tops {
     slots: Vec<Slot>,
     /// The number that came free last.

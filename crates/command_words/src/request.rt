@@ -13,7 +13,7 @@ pub const USUAL_MOST: u32 = 100;
 const MOST_ITEMS: u32 = 100_000;
 
 /// What a stream is read for.
-#[derive(Clone, Copy, Debug, PartialEq, Eq)]
+#[derive(Clone, Copy, PartialEq)]
 pub enum Task {
     /// Whether the schema is accepted.
     Check,
@@ -24,7 +24,7 @@ pub enum Task {
 }
 
 /// What the words of a command line ask for.
-#[derive(Clone, Copy, Debug, PartialEq, Eq)]
+#[derive(Clone, Copy, PartialEq)]
 pub enum Request {
     /// A stream is read; `errors` writes so many record lines at most.
     Read(Task, u32),

@@ -10,7 +10,7 @@ use std::alloc::{AllocError, Global};
 use xs_names::Text;
 
 /// Why the words of a command line were not read.
-#[derive(Clone, Copy, Debug, PartialEq, Eq)]
+#[derive(Clone, Copy)]
 pub enum WordsFault {
     /// Memory was wanting.
     Memory,

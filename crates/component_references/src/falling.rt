@@ -13,7 +13,7 @@ use xs_components::{ComplexType, SimpleType};
 use xs_lists::Listed;
 
 // What comes of references.
-#[derive(Debug, Drop)]
+#[derive(Drop)]
 pub(crate) enum Ranking {
     // Ranks by which every reference goes lower.
     Falling(Vec<u32>),

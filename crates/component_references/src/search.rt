@@ -10,7 +10,7 @@ const NO_LEVEL: u32 = u32::MAX;
 
 // A search in depth for the sets of parts that lead to each other (path by path, as Gabow has it). Nothing is proved of
 // what it finds: that no level rises is tested behind it.
-#[derive(Debug, Drop)]
+#[derive(Drop)]
 struct Search {
     // When each part was entered, from 1.
     entered: Vec<u32>,

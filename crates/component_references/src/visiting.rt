@@ -9,7 +9,7 @@ use std::alloc::{AllocError, Global};
 use xs_lists::Listed;
 
 // How far a part has come.
-#[derive(Clone, Copy, Debug, PartialEq, Eq)]
+#[derive(Clone, Copy)]
 enum State {
     New,
     Open,
@@ -17,7 +17,7 @@ enum State {
 }
 
 // A part to be visited, or to be left where what it refers to was visited.
-#[derive(Clone, Copy, Debug, PartialEq, Eq)]
+#[derive(Clone, Copy)]
 pub(crate) struct Visit {
     pub(crate) part: u32,
     pub(crate) entered: bool,

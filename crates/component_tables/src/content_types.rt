@@ -12,7 +12,7 @@ use std::marker::Model;
 use xs_components::{Components, ContentForm, TypeId};
 
 /// What elements of a type contain.
-#[derive(Clone, Copy, Debug, PartialEq, Eq)]
+#[derive(Clone, Copy, PartialEq)]
 pub enum ContentType {
     /// The type is a simple type: text that it accepts.
     SimpleType,
@@ -27,7 +27,7 @@ pub enum ContentType {
 }
 
 /// The content types of all complex types of a schema set.
-#[derive(Debug, Drop)]
+#[derive(Drop)]
 pub struct ContentTypes {
     complexes: Vec<ContentType>,
 }

@@ -14,7 +14,7 @@ use xs_components::{Components, ElementId, TypeId};
 use xs_names::NameId;
 
 /// The types of all element declarations of a schema set, and the declarations at the top of its documents by their names.
-#[derive(Debug, Drop)]
+#[derive(Drop)]
 pub struct Declarations {
     types: Vec<TypeId>,
     globals: Vec<Option<ElementId>>,

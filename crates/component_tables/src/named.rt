@@ -16,7 +16,7 @@ use xs_names::{NameId, Names, NsId};
 
 /// The names of the types and of the attribute declarations at the top of the documents of a schema set (Structures 2.5).
 /// Contracts see the name in each place of both symbol spaces, if there is one.
-#[derive(Debug, Drop)]
+#[derive(Drop)]
 pub struct ComponentNames {
     types: Symbols,
     attributes: Symbols,

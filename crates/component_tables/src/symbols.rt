@@ -7,7 +7,7 @@ use std::marker::Model;
 use xs_names::NameId;
 
 /// The names in one symbol space, by place: a place has a name there or none. Contracts see the list of these.
-#[derive(Debug, Drop)]
+#[derive(Drop)]
 pub struct Symbols {
     names: Vec<Option<NameId>>,
     firsts: Vec<Option<u32>>,

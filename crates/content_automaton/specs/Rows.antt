@@ -1,8 +1,9 @@
 -- The symbols that a term accepts, each with the class of what the term gives.
-use Rattle.std.specs.Prelude.{◌≡◌, ℕ, ◌+◌, ◌-◌, ◌<◌, ◌↔◌, ◌==◌, Bool, true, false, IsTrue, nat_lt, List, [], ◌∷◌, slice_index, Contains, if◌then◌else◌, length}
+use Rattle.std.specs.Prelude.{◌≡◌, ℕ, ◌+◌, ◌-◌, ◌<◌, ◌↔◌, ◌==◌, Bool, true, false, IsTrue, nat_lt, nat_eq, List, [], ◌∷◌, slice_index, Contains, if◌then◌else◌, length}
+use Rattle.std.specs.HashSet.{HashSet, contains}
 use Rattle.xs_names.specs.Names.{NameTable, space_of}
 use Rattle.xs_names.specs.Numbering.{with_item}
-use Rattle.xs_components.specs.Sets.{admits}
+use Rattle.xs_components.specs.Sets.{admits, has}
 use Rattle.xs_components.specs.declared.namespace_constraint.NsConstraint.{NsConstraint}
 use Rattle.xs_components.specs.declared.namespace_constraint.NsConstraint.TheVariants.{Any, Not, In}
 use Rattle.content_automaton.specs.declared.symbol_terms.Given.{Given}
@@ -33,6 +34,11 @@ abbrev pub admits_symbol : NameTable → SymbolTable → NsConstraint → ℕ �
 admits_symbol t s namespaces n =
     if nat_lt n (length s.names) then admits namespaces (space_of t (slice_index s.names n))
     else (if nat_lt n (length s.names + length s.spaces) then admits namespaces (slice_index s.spaces (n - length s.names)) else is_open namespaces)
+
+-- the set has the namespaces that the constraint lists, if it does
+abbrev pub AreListed : {S : Type 0} → NsConstraint → HashSet ℕ S → Type 0
+AreListed (In listed) set = (ns : ℕ) → contains nat_eq set ns ≡ has listed ns
+AreListed _ set = Unit {0}
 
 -- the symbol and the class of a name that is given
 abbrev pub entry_of : NameTable → SymbolTable → Given → Entry

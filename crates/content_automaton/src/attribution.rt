@@ -7,7 +7,7 @@ ghost use Rattle.content_automaton.specs.Attribution.{Noted, noted, AreNoted, Ar
 use crate::rows::Entry;
 
 /// What is attributed to a name (Structures 3.4.4), by the numbers of terms in the order of the schema.
-#[derive(Clone, Copy, Debug)]
+#[derive(Clone, Copy)]
 pub enum Attribution {
     /// No term accepts it.
     Nothing,

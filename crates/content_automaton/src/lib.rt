@@ -11,6 +11,7 @@ mod numbers;
 mod refused;
 mod rows;
 mod sets;
+mod spaces;
 mod states;
 mod stop;
 mod symbol_terms;

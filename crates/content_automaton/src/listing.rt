@@ -13,7 +13,7 @@ use xs_lists::Listed;
 use xs_names::Names;
 
 /// For each term of a model the symbols that it accepts, rising; and for each symbol what is attributed to its names.
-#[derive(Debug, Drop)]
+#[derive(Drop)]
 pub struct Listing {
     pub accepted: Vec<Listed<u32>>,
     pub attributions: Vec<Attribution>,

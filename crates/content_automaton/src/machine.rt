@@ -22,7 +22,7 @@ use std::marker::Model;
 use xs_lists::Listed;
 
 /// The states of a model, the steps between them by symbols, and the terms that names end in.
-#[derive(Debug, Drop)]
+#[derive(Drop)]
 pub struct Machine {
     cells: Vec<u16>,
     symbols: u32,

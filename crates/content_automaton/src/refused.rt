@@ -1,7 +1,7 @@
 //! Why there is no automaton.
 
 /// Why a model has no automaton.
-#[derive(Clone, Copy, Debug, PartialEq, Eq)]
+#[derive(Clone, Copy)]
 pub enum BuildError {
     /// There are more than 2,048 states.
     TooManyStates,

@@ -9,6 +9,7 @@ ghost use Rattle.content_automaton.specs.Terms.{names_of, spaces_of};
 ghost use Rattle.content_automaton.specs.Symbols.{AreNamesOf, count_of};
 ghost use Rattle.content_automaton.specs.Rows.{IsRow, entry_of, AreAdmitted, AreSymbolsIn};
 
+use crate::spaces::listed_spaces;
 use crate::symbol_terms::{Accepts, Given};
 use crate::symbols::Symbols;
 use std::alloc::{AllocError, Global};
@@ -17,7 +18,7 @@ use xs_lists::Listed;
 use xs_names::Names;
 
 /// A symbol that a term accepts, and the class of what it then gives.
-#[derive(Clone, Copy, Debug)]
+#[derive(Clone, Copy)]
 pub(crate) struct Entry {
     pub(crate) symbol: u32,
     pub(crate) class: u32,
@@ -73,9 +74,10 @@ fn wildcard_row(
     requires { AreNamesOf names.now symbols.now.names }
     ensures { IfOk result (λ row. AreAdmitted names.now symbols.now namespaces.now class (count_of symbols.now) row.items) }
 {
+    let listed = listed_spaces(alloc, namespaces)?;
     let mut row = Vec::new(alloc);
     for symbol in 0..symbols.count() {
-        if symbols.is_admitted(names, namespaces, symbol) {
+        if symbols.is_admitted(names, namespaces, &listed, symbol) {
             row.push(Entry { symbol, class })?;
         }
     }

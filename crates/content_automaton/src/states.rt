@@ -15,7 +15,7 @@ use std::alloc::Global;
 use xs_lists::Listed;
 
 /// States, each with its set of positions, and steps. The set of the start is left empty.
-#[derive(Debug, Drop)]
+#[derive(Drop)]
 pub(crate) struct Found {
     pub(crate) states: IndexSet<Vec<u32>>,
     pub(crate) cells: Vec<u16>,

@@ -3,7 +3,7 @@
 use std::alloc::{AllocError, AllocFailed};
 
 /// Why the states are not found.
-#[derive(Clone, Copy, Debug, PartialEq, Eq)]
+#[derive(Clone, Copy)]
 pub enum Stop {
     /// Memory ran out.
     Memory,

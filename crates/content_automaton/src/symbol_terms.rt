@@ -6,14 +6,14 @@ use xs_names::NameId;
 
 /// A name that an element term accepts, and the class of the declaration that it then gives. Declarations with the same
 /// properties have one class.
-#[derive(Clone, Copy, Debug)]
+#[derive(Clone, Copy)]
 pub struct Given {
     pub name: NameId,
     pub class: u32,
 }
 
 /// What a term accepts (Structures 3.8.4).
-#[derive(Debug, Drop)]
+#[derive(Drop)]
 pub enum Accepts {
     /// An element: these names.
     Element(Listed<Given>),

@@ -6,11 +6,13 @@ ghost use Rattle.xs_names.specs.Numbering.{with_item, HasNoRepeats};
 ghost use Rattle.content_automaton.specs.declared.symbol_terms.Given.{Given as GivenData};
 ghost use Rattle.content_automaton.specs.Terms.{ExpandedName, name_at, names_of, spaces_of, spaces_in};
 ghost use Rattle.content_automaton.specs.Symbols.{AreSymbolsOf, AreNamesOf, count_of, symbol_of};
-ghost use Rattle.content_automaton.specs.Rows.{with_all, admits_symbol, is_open};
+ghost use Rattle.content_automaton.specs.Rows.{with_all, admits_symbol, is_open, AreListed};
 
+use crate::spaces::admits;
 use crate::symbol_terms::{Accepts, Given};
 use indexmap::IndexSet;
 use std::alloc::{AllocError, Global};
+use std::collections::HashSet;
 use std::marker::Model;
 use xs_components::NsConstraint;
 use xs_names::{NameId, Names, NsId};
@@ -163,19 +165,26 @@ impl Symbols {
         (self.names.len() + self.spaces.len()) as u32
     }
 
-    /// Whether a wildcard with this constraint accepts the names that have the symbol.
-    pub(crate) fn is_admitted(&self, names: &Names, namespaces: &NsConstraint, symbol: u32) -> bool
-        requires { AreNamesOf names.now self.now.names }
+    /// Whether a wildcard with this constraint, whose namespaces are these, accepts the names that have the symbol.
+    pub(crate) fn is_admitted(
+        &self,
+        names: &Names,
+        namespaces: &NsConstraint,
+        listed: &HashSet<NsId>,
+        symbol: u32,
+    ) -> bool
+        requires names { AreNamesOf names.now self.now.names }
+        requires listed { AreListed namespaces.now listed.now }
         ensures { result ≡ admits_symbol names.now self.now namespaces.now symbol }
     {
         let place = symbol as usize;
         let own = self.names.as_slice();
         if place < own.len() {
-            return namespaces.admits(names.ns(own[place]));
+            return admits(namespaces, listed, names.ns(own[place]));
         }
         let spaces = self.spaces.as_slice();
         if place < own.len() + spaces.len() {
-            return namespaces.admits(spaces[place - own.len()]);
+            return admits(namespaces, listed, spaces[place - own.len()]);
         }
         is_open(namespaces)
     }

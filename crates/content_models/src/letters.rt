@@ -10,7 +10,7 @@ use xs_lists::Listed;
 pub(crate) const STRANGER: u16 = 64;
 
 /// For each symbol the first member that accepts its names, or 64; and two members that accept one name.
-#[derive(Debug, Drop)]
+#[derive(Drop)]
 pub(crate) struct Letters {
     pub(crate) letters: Vec<u16>,
     pub(crate) pair: Option<(u16, u16)>,

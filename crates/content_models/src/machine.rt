@@ -11,7 +11,7 @@ pub const MOST_MEMBERS: usize = 64;
 
 /// What the words of an `all` need: the members that each word has, whether the `all` may be left out, and whether each of
 /// its members has a word.
-#[derive(Clone, Copy, Debug)]
+#[derive(Clone, Copy)]
 pub struct AllMachine {
     required: u64,
     optional: bool,

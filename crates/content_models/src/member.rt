@@ -1,7 +1,7 @@
 //! Members of an `all`.
 
 /// A member of an `all` (Structures 3.8.2): a particle whose term is an element, with its bounds.
-#[derive(Clone, Copy, Debug, PartialEq, Eq)]
+#[derive(Clone, Copy)]
 pub struct AllMember {
     /// The number of the particle.
     pub term: u32,

@@ -1,7 +1,7 @@
 //! Why a content model has no automaton.
 
 /// Why a content model has no automaton.
-#[derive(Clone, Copy, Debug, PartialEq, Eq)]
+#[derive(Clone, Copy)]
 pub enum ModelError {
     /// There are more than 2,048 positions.
     TooManyPositions,

@@ -5,7 +5,7 @@ ghost use Rattle.std.specs.Int.{bit_at};
 ghost use Rattle.content_models.specs.States.{next_of};
 
 /// The members of an `all` that were seen, as the bits of a number, and whether no word begins so.
-#[derive(Clone, Copy, Debug, PartialEq, Eq)]
+#[derive(Clone, Copy, PartialEq)]
 pub struct AllState {
     pub seen: u64,
     pub dead: bool,

@@ -3,3 +3,4 @@ pub mod Sums
 mod Tallies
 mod Keeping
 mod Parents
+pub mod Linked

@@ -113,6 +113,7 @@ records-still t u refs c r linked linked2 differ are = record {
   settled = settled-still t u r.referred linked linked2 differ are.settled;
   matched = are.matched;
   once = are.once;
+  bare = are.bare;
   misused_are = are.misused_are;
   lacking_are = are.lacking_are;
   nillable_are = are.nillable_are;

@@ -1,6 +1,6 @@
 //! Targets by the numbers of elements.
 
-ghost use Rattle.std.specs.Prelude.{◌≡◌, ◌<◌, [], ℕ, length, map, set, None, IfOk, OnOk};
+ghost use Rattle.std.specs.Prelude.{◌≡◌, ◌<◌, [], ℕ, true, false, length, map, set, None, Some, IfOk, OnOk};
 ghost use Rattle.identity_counts.specs.Counting.{Links, IsLinked};
 ghost use Rattle.identity_carry.specs.Tables.{AreParents, parent_in};
 ghost use Rattle.key_records.specs.References.{AreReferences};
@@ -45,6 +45,16 @@ fn write(parents: &mut Vec<Option<u32>>, number: u32, parent: Option<u32>)
     parents[number as usize] = parent;
 }
 
+// Whether a parent, if there is one, has a lower number.
+fn is_lower(parent: Option<u32>, number: u32) -> bool
+    ensures { result ≡ true → (p : ℕ) → parent ≡ Some p → p < number }
+{
+    match parent {
+        None => true,
+        Some(parent) => parent < number,
+    }
+}
+
 impl CountedKeys {
     /// No elements.
     ///
@@ -79,15 +89,26 @@ impl CountedKeys {
         }
     }
 
+    /// Whether an element is a target of some constraint.
+    pub fn is_target(&self, number: u32) -> bool
+        ensures { result ≡ false → targets_of self.now number ≡ [] }
+    {
+        self.targets.get(number).is_some()
+    }
+
     /// Keeps another parent of an element. Where an element comes or goes that shows nothing, the counts stay right
-    /// (`counts_stay_as_links_change`).
+    /// (`counts_stay_as_an_element_moves`).
     ///
     /// # Errors
     ///
-    /// `AllocError` is want of memory.
+    /// `AllocError` is want of memory, or the number of the parent is no lower one.
     pub fn set_parent(&mut self, number: u32, parent: Option<u32>) -> Result<(), AllocError>
-        ensures { OnOk result (Reparents self.old self.new number parent) }
+        ensures parent { OnOk result (Reparents self.old self.new number parent) }
+        ensures lower { OnOk result ((p : ℕ) → parent ≡ Some p → p < number) }
     {
+        if !is_lower(parent, number) {
+            return Err(AllocError);
+        }
         reach(&mut self.parents, number)?;
         write(&mut self.parents, number, parent);
         Ok(())

@@ -6,4 +6,7 @@ mod keys;
 mod laws;
 
 pub use keys::CountedKeys;
-pub use laws::{counted_targets_are_the_outcomes, counts_stay_as_links_change};
+pub use laws::{
+    counted_targets_are_the_outcomes, counts_stay_as_an_element_moves, counts_stay_as_links_change,
+    parents_give_links,
+};

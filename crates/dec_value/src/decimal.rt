@@ -16,7 +16,7 @@ use std::marker::Model;
 
 /// A decimal number: an integer of at most 38 digits over a power of ten, at most the 38th, the
 /// least that serves (Datatypes 3.2.3).
-#[derive(Clone, Copy, Debug, PartialEq, Eq, Hash)]
+#[derive(Clone, Copy, PartialEq, Eq, Hash)]
 pub struct Dec {
     unscaled: i128,
     scale: u32,
@@ -35,7 +35,7 @@ impl Model for Dec {
 }
 
 /// Why a text is no `Dec`.
-#[derive(Clone, Copy, Debug, PartialEq, Eq)]
+#[derive(Clone, Copy, Debug)]
 pub enum DecFault {
     /// It is no literal of `decimal` (Datatypes 3.2.3.1).
     NotDecimal,

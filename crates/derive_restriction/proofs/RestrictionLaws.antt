@@ -1,19 +1,21 @@
 -- Tables of attribute uses that are there, or refused.
-use Rattle.std.proofs.Common.{◌≡◌, ◌⊎◌, ℕ, Bool, List, Option, None, Result, Ok, Err, refl, subst}
+use Rattle.std.proofs.Common.{◌≡◌, ◌⊎◌, inl, inr, ℕ, Bool, true, List, Option, None, Some, Result, Ok, Err, refl, sym, subst}
+use Rattle.std.proofs.lemmas.Bool.{false≢true}
 use Rattle.xs_codes.specs.declared.code.Code.{Code}
 use Rattle.xs_codes.specs.declared.fault.Fault.{Fault}
 use Rattle.xs_names.specs.Names.{NameTable}
 use Rattle.xs_components.specs.Tables.{Tables}
 use Rattle.xs_components.specs.declared.common.TypeId.{TypeId}
-use Rattle.xs_components.specs.declared.common.TypeId.TheVariants.{Complex}
-use Rattle.attr_uses.specs.Uses.{AttrUses, uses_of}
+use Rattle.xs_components.specs.declared.common.TypeId.TheVariants.{AnyType, Builtin, Simple, Complex}
+use Rattle.attr_uses.specs.Uses.{AttrUses, uses_of, any_wildcard, any_type_uses}
+use Rattle.attr_uses.proofs.DefLaws.{any_type_is}
 use Rattle.attr_uses.specs.Tables.{StandsFor, Answers}
 use Rattle.attr_uses.specs.declared.store.KeptTable.{KeptTable}
 use Rattle.attr_uses.specs.declared.store.Store.{Store}
 use Rattle.derive_faults.specs.TypeFaults.{IsFirstCode}
 use Rattle.std.specs.Prelude.{IfOk}
 use Rattle.derive_faults.proofs.FaultLaws.{first-same, given-first}
-use Rattle.derive_restriction.specs.Uses.{BreaksUses}
+use Rattle.derive_restriction.specs.Uses.{Declared, use_for, BreaksName, BreaksUses}
 use Rattle.derive_restriction.specs.Wildcards.{BreaksWildcard}
 use Rattle.derive_restriction.specs.Restrictions.{is_any_type, BreaksTables}
 
@@ -59,6 +61,28 @@ module _ (t : Tables) (names : NameTable) (n : ℕ) (base : TypeId) where
       subst (λ (a : AttrUses). BreaksUses t names own a code ⊎ BreaksWildcard (is_any_type base) own.wildcard a.wildcard code) two
       (subst (λ (o : AttrUses). BreaksUses t names o x.1 code ⊎ BreaksWildcard (is_any_type base) o.wildcard x.1.wildcard code) one x.4))
       r is
+
+-- anyType allows each attribute use
+by-name : (t : Tables) (names : NameTable) (own : Option Declared) (code : Code) → BreaksName t names (Some any_wildcard) own None code → ⊥
+by-name t names None code x = x
+by-name t names (Some own) code x = false≢true (sym x.0)
+
+pub any-first : (t : Tables) (names : NameTable) (own : AttrUses) (r : Option Code) → IsFirstCode (BreaksWildcard true own.wildcard any_type_uses.wildcard) r
+    → IsFirstCode (λ code. BreaksUses t names own any_type_uses code ⊎ BreaksWildcard true own.wildcard any_type_uses.wildcard code) r
+any-first t names own r is =
+    first-same (BreaksWildcard true own.wildcard any_type_uses.wildcard) (λ code. BreaksUses t names own any_type_uses code ⊎ BreaksWildcard true own.wildcard any_type_uses.wildcard code)
+    (λ code x. inr x)
+    (λ code x. elim x [
+      | inl u ↦ absurd (by-name t names (use_for t own.uses u.0) code u.2)
+      | inr w ↦ w
+    ])
+    r is
+
+pub of-any-type : (t : Tables) (base : TypeId) (also : AttrUses) → is_any_type base ≡ true → uses_of t base ≡ Ok also → (base ≡ AnyType) × (also ≡ any_type_uses)
+of-any-type t AnyType also any is = (refl, same_Ok also any_type_uses (uses_of t AnyType) is (any_type_is t))
+of-any-type t (Builtin kind) also any is = absurd (false≢true any)
+of-any-type t (Simple id) also any is = absurd (false≢true any)
+of-any-type t (Complex id) also any is = absurd (false≢true any)
 
 -- a type that is a restriction
 pub given-in : {E : Type 0} (P : Type 0) (A : Code → Type 0) → P → (r : Result (Option Code) E) → IfOk r (IsFirstCode A) → IfOk r (IsFirstCode (λ c. P × A c))

@@ -1,6 +1,6 @@
 -- The simple type that the text of a type is of.
-use Rattle.std.proofs.Common.{◌≡◌, ◌↔◌, ◌⊎◌, inl, inr, ℕ, Bool, true, false, List, Option, None, Some, slice_get, refl, sym, ap, ◌∙◌, subst}
-use Rattle.std.specs.Prelude.{IsTrue, IfOk, IfSome, Result, Ok, Err, ◌||◌, if◌then◌else◌}
+use Rattle.std.proofs.Common.{◌≡◌, ◌↔◌, ℕ, Bool, true, false, Option, None, Some, slice_get, refl, sym, ap, ◌∙◌, subst}
+use Rattle.std.specs.Prelude.{IsTrue, IfOk, Result, Ok, Err, ◌||◌, if◌then◌else◌}
 use Rattle.std.proofs.lemmas.Bool.{false≢true}
 use Rattle.std.proofs.lemmas.Option.{same_Some, none-some}
 use Rattle.xs_components.specs.Tables.{Tables}
@@ -9,12 +9,11 @@ use Rattle.xs_components.specs.declared.common.TypeId.TheVariants.{AnyType, Buil
 use Rattle.xs_components.specs.declared.complex.ComplexType.{ComplexType}
 use Rattle.xs_components.specs.declared.complex.ContentForm.{ContentForm}
 use Rattle.xs_components.specs.declared.complex.ContentForm.TheVariants as forms
-use Rattle.xs_components.specs.declared.simple.FacetItem.{FacetItem}
 use Rattle.type_derivation.specs.Derives.{is_simple}
 use Rattle.component_references.specs.Heights.{IsType, IsLower, type_height}
 use Rattle.component_references.specs.Ranked.{IsRanked}
 use Rattle.derive_restriction.specs.Given.{AreOwnThere}
-use Rattle.derive_restriction.specs.Contents.{HasTextType, itself, by_extension, by_own, by_restriction, DerivesFromText, IsTextDerived, IsTextType, text_step, complex_step, complex_step_in, restricted_content, restricted_if}
+use Rattle.derive_restriction.specs.Contents.{HasTextType, itself, by_extension, by_own, by_restriction, DerivesFromText, IsTextDerived, IsTextType, text_step, complex_step_in, restricted_content, restricted_if}
 use Rattle.derive_restriction.specs.declared.texts.TextType.{TextType}
 use Rattle.derive_restriction.specs.declared.texts.TextStep.{TextStep}
 use Rattle.derive_restriction.specs.declared.texts.TextStep.TheVariants as steps

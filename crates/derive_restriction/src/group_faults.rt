@@ -108,7 +108,7 @@ fn broken_code(
         Err(_error) => Ok(None),
         Ok(own) => match set.tables.of_group(original) {
             Err(_error) => Ok(None),
-            Ok(table) => tables_code(alloc, set, types, false, own, table),
+            Ok(table) => tables_code(alloc, set, types, own, table),
         },
     }
 }

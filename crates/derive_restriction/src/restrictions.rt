@@ -1,11 +1,11 @@
 //! The first restriction that its base does not allow.
 
-ghost use Rattle.std.specs.Prelude.{◌≡◌, ◌⊎◌, ◌<◌, List, Bool, Some, Ok, IfOk, length, slice_get};
+ghost use Rattle.std.specs.Prelude.{◌≡◌, ◌⊎◌, ◌<◌, List, Bool, true, false, Some, Ok, IfOk, length, slice_get};
 ghost use Rattle.xs_components.specs.declared.common.TypeId.TheVariants.{Complex};
 ghost use Rattle.xs_codes.specs.Least.{IsLeast};
 ghost use Rattle.component_references.specs.Heights.{IsType};
 ghost use Rattle.attr_uses.specs.Tables.{AreTablesOf, StandsFor, IsStore};
-ghost use Rattle.attr_uses.specs.Uses.{AttrUses, uses_of};
+ghost use Rattle.attr_uses.specs.Uses.{AttrUses, uses_of, any_type_uses};
 ghost use Rattle.component_tables.specs.ContentTypes.{AreContentsOf};
 ghost use Rattle.particle_forms.specs.Ranges.{AreRangesOf};
 ghost use Rattle.derive_faults.specs.TypeFaults.{IsFirstCode, IsFaultAt, IsTypeFault};
@@ -36,7 +36,7 @@ fn is_any_type(of: &TypeId) -> bool
 }
 
 /// The first code of the attribute uses and the wildcard of one table against another, as those of a restriction against those of
-/// its base (derivation-ok-restriction.2.1.1 to .4.3); `of_any_type` tells that the base is anyType.
+/// its base, which is not anyType (derivation-ok-restriction.2.1.1 to .4.3).
 ///
 /// # Errors
 ///
@@ -45,7 +45,6 @@ pub fn tables_code(
     alloc: Global,
     set: &ComparedSet<'_>,
     types: &mut SimpleTypes,
-    of_any_type: bool,
     own: KeptTable,
     base: KeptTable,
 ) -> Result<Option<Code>, AllocError>
@@ -54,16 +53,44 @@ pub fn tables_code(
     requires store { IsStore set.now.tables.now.store }
     requires tables { (ids : List Bool) × (value also : AttrUses) × StandsFor set.now.parts.now ids set.now.tables.now.store own value × StandsFor set.now.parts.now ids set.now.tables.now.store base also }
     ensures first { (ids : List Bool) (value also : AttrUses) → StandsFor set.now.parts.now ids set.now.tables.now.store own value → StandsFor set.now.parts.now ids set.now.tables.now.store base also
-        → IfOk result (IsFirstCode (λ code. BreaksUses set.now.parts.now set.now.names.now value also code ⊎ BreaksWildcard of_any_type value.wildcard also.wildcard code)) }
+        → IfOk result (IsFirstCode (λ code. BreaksUses set.now.parts.now set.now.names.now value also code ⊎ BreaksWildcard false value.wildcard also.wildcard code)) }
     ensures same { types.new ≡ types.old }
 {
     let uses = uses_code(alloc, set, types, own, base)?;
-    let wildcard = wildcard_code(
-        of_any_type,
-        set.tables.wildcard(own),
-        set.tables.wildcard(base),
-    );
+    let wildcard = wildcard_code(false, set.tables.wildcard(own), set.tables.wildcard(base));
     Ok(earlier(uses, wildcard))
+}
+
+// The first code of the attributes of a type against those of anyType, which has no uses, and whose wildcard admits each name.
+fn any_type_code(set: &ComparedSet<'_>, own: KeptTable, base: KeptTable) -> Option<Code>
+    ensures { (ids : List Bool) (value : AttrUses) → StandsFor set.now.parts.now ids set.now.tables.now.store own value → StandsFor set.now.parts.now ids set.now.tables.now.store base any_type_uses
+        → IsFirstCode (λ code. BreaksUses set.now.parts.now set.now.names.now value any_type_uses code ⊎ BreaksWildcard true value.wildcard any_type_uses.wildcard code) result }
+{
+    wildcard_code(true, set.tables.wildcard(own), set.tables.wildcard(base))
+}
+
+// The first code of the attributes of a type against those of its base, by the tables of both.
+fn base_code(
+    alloc: Global,
+    set: &ComparedSet<'_>,
+    types: &mut SimpleTypes,
+    base: &TypeId,
+    own: KeptTable,
+    table: KeptTable,
+) -> Result<Option<Code>, AllocError>
+    requires given { AreGiven set.now.parts.now set.now.names.now }
+    requires types { AreTypes set.now.parts.now types.old }
+    requires store { IsStore set.now.tables.now.store }
+    requires tables { (ids : List Bool) × (value also : AttrUses) × StandsFor set.now.parts.now ids set.now.tables.now.store own value × StandsFor set.now.parts.now ids set.now.tables.now.store table also }
+    ensures first { (ids : List Bool) (value also : AttrUses) → StandsFor set.now.parts.now ids set.now.tables.now.store own value → StandsFor set.now.parts.now ids set.now.tables.now.store table also → uses_of set.now.parts.now base.now ≡ Ok also
+        → IfOk result (IsFirstCode (λ code. BreaksUses set.now.parts.now set.now.names.now value also code ⊎ BreaksWildcard (spec.is_any_type base.now) value.wildcard also.wildcard code)) }
+    ensures same { types.new ≡ types.old }
+{
+    if is_any_type(base) {
+        Ok(any_type_code(set, own, table))
+    } else {
+        tables_code(alloc, set, types, own, table)
+    }
 }
 
 // The first code of the attributes of a type against those of its base, where both have tables.
@@ -86,7 +113,7 @@ fn attributes_code(
         Err(_error) => Ok(None),
         Ok(own) => match set.tables.of_type(*base) {
             Err(_error) => Ok(None),
-            Ok(table) => tables_code(alloc, set, types, is_any_type(base), own, table),
+            Ok(table) => base_code(alloc, set, types, base, own, table),
         },
     }
 }

@@ -12,14 +12,14 @@ use std::alloc::{AllocError, Global};
 use xs_components::{ComplexType, Components, ContentForm, TypeId};
 
 /// The simple type that a text is of: a type of the schema, or a restriction of one, which has no name (Structures 3.4.2).
-#[derive(Clone, Copy, Debug)]
+#[derive(Clone, Copy)]
 pub(crate) struct TextType {
     pub(crate) of: TypeId,
     pub(crate) is_restricted: bool,
 }
 
 /// What says of which simple type the text of a type is.
-#[derive(Clone, Copy, Debug)]
+#[derive(Clone, Copy)]
 pub(crate) enum TextStep {
     /// Its text is of no simple type.
     Nothing,

@@ -11,7 +11,7 @@ use std::alloc::AllocError;
 use xs_names::{NameId, Names, Text};
 
 /// A change of a document that nothing refuses. Its names are resolved: they go by the numbers of a table.
-#[derive(Debug, Drop)]
+#[derive(Drop)]
 pub enum Change {
     /// Puts the nodes of a tree below an element, before the child of this place.
     Insert {

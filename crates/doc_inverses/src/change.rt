@@ -26,7 +26,7 @@ use xs_lists::Listed;
 use xs_names::{NameId, Text};
 
 /// A change of a document by the numbers of its nodes and names, those of new nodes too.
-#[derive(Debug, Drop)]
+#[derive(Drop)]
 pub enum Change {
     /// Puts a node that was taken out before the child of this place again, with all that was below it, each under its number.
     PutBack {

@@ -2,7 +2,7 @@ use doc_nodes::Content;
 use xs_lists::Listed;
 
 /// A node of a part. It has its number, and its depth among those of the part, the first of which has depth 1.
-#[derive(Debug, Drop)]
+#[derive(Drop)]
 pub struct PartRow {
     pub number: u32,
     pub depth: u32,

@@ -2,7 +2,7 @@ use xs_lists::Listed;
 use xs_names::{NameId, NsId, Text};
 
 /// An attribute that is no binding.
-#[derive(Debug, Drop)]
+#[derive(Drop)]
 pub struct NameAttribute {
     pub name: NameId,
     pub value: Text,
@@ -10,14 +10,14 @@ pub struct NameAttribute {
 
 /// The binding of a prefix to a namespace. The empty prefix stands for the default namespace
 /// (Namespaces in XML 1.0, 3 and 6.2).
-#[derive(Debug, Drop)]
+#[derive(Drop)]
 pub struct NameBinding {
     pub prefix: Text,
     pub namespace: NsId,
 }
 
 /// What an element holds beside its children.
-#[derive(Debug, Drop)]
+#[derive(Drop)]
 pub struct Element {
     pub name: NameId,
     /// The bindings of the start tag, in order.
@@ -27,7 +27,7 @@ pub struct Element {
 }
 
 /// What a node holds beside its children.
-#[derive(Debug, Drop)]
+#[derive(Drop)]
 pub enum Content {
     Element(Element),
     /// A text, by its characters.
@@ -35,7 +35,7 @@ pub enum Content {
 }
 
 /// A node that is still to be put, under this number.
-#[derive(Debug, Drop)]
+#[derive(Drop)]
 pub struct NewNode {
     pub number: u32,
     pub content: Content,

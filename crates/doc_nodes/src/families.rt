@@ -17,7 +17,7 @@ use std::alloc::{AllocError, Global};
 use xsv_steps::{Silent, Steps};
 
 /// A list of new children, and for each of them its item and a list for its own children.
-#[derive(Debug, Drop)]
+#[derive(Drop)]
 pub struct Family {
     pub list: SeqId,
     pub hung: Vec<Hung>,

@@ -9,14 +9,14 @@ use std::alloc::{AllocError, Global};
 use xsv_steps::{Ledger, Steps};
 
 /// The first child of some, and the first element among them, by their numbers.
-#[derive(Clone, Copy, Debug, PartialEq, Eq)]
+#[derive(Clone, Copy)]
 pub struct First {
     pub child: Option<u32>,
     pub element: Option<u32>,
 }
 
 /// A child, and whether it is an element.
-#[derive(Clone, Copy, Debug, PartialEq, Eq)]
+#[derive(Clone, Copy)]
 pub struct Child {
     pub number: u32,
     pub is_element: bool,

@@ -48,7 +48,7 @@ fn first_from(lists: &Seqs<Firsts>, list: SeqId, place: u32) -> First
 }
 
 /// A new list, and an item of another one.
-#[derive(Clone, Copy, Debug, PartialEq, Eq)]
+#[derive(Clone, Copy)]
 pub struct Hung {
     pub list: SeqId,
     pub item: ItemId,

@@ -10,14 +10,14 @@ use std::alloc::{AllocError, Global};
 use std::marker::Model;
 
 /// Where a node hangs: the number of its parent, and its item in the parent's list.
-#[derive(Clone, Copy, Debug, PartialEq, Eq)]
+#[derive(Clone, Copy)]
 pub struct Hook {
     pub parent: u32,
     pub item: ItemId,
 }
 
 /// A node, with its number and the list of its children, of which there are `count`.
-#[derive(Debug, Drop)]
+#[derive(Drop)]
 pub struct Slot {
     pub number: u32,
     /// `None` for the root.
@@ -29,7 +29,7 @@ pub struct Slot {
 }
 
 /// What a node is to its children: their list, how many there are, and how deep the node stands.
-#[derive(Clone, Copy, Debug, PartialEq, Eq)]
+#[derive(Clone, Copy)]
 pub struct Owner {
     pub list: SeqId,
     pub depth: u32,

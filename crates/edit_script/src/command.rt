@@ -4,7 +4,7 @@ ghost use Rattle.edit_script.specs.Faults.{number_of, name_of};
 use tree_edits::Edit;
 
 /// A command of a script.
-#[derive(Debug, Drop)]
+#[derive(Drop)]
 pub enum Command {
     /// `insert`, `addtext`, `text`, `remove`, `rename`, `set` or `unset`: a change of the tree.
     Change(Edit),
@@ -22,12 +22,14 @@ pub enum Command {
     Redo,
     /// `next P I`: a question for the names that may stand before the child at a place of an element.
     Next { parent: u32, index: u32 },
+    /// `swap K`: another schema set, which starts at a schema section.
+    Swap(u32),
     /// `as A V EDIT`: a change of the tree by an author who had seen a revision.
     Turn { author: u32, seen: u64, edit: Edit },
 }
 
 /// Why a line is no command.
-#[derive(Clone, Copy, Debug, PartialEq, Eq)]
+#[derive(Clone, Copy)]
 pub enum ScriptFault {
     /// The first word is that of no command.
     UnknownCommand,

@@ -20,7 +20,7 @@ use tree_edits::Edit;
 use xs_names::Text;
 
 /// Why a line gave no command.
-#[derive(Clone, Copy, Debug)]
+#[derive(Clone, Copy)]
 pub enum ScriptError {
     Memory,
     Refused(ScriptFault),
@@ -43,7 +43,7 @@ impl From<ScriptFault> for ScriptError {
 }
 
 /// A node and a name.
-#[derive(Debug, Drop)]
+#[derive(Drop)]
 pub struct NodeAndName {
     pub node: u32,
     pub name: Text,
@@ -210,7 +210,7 @@ fn no_field(rest: Option<&str>) -> Result<(), ScriptFault>
     }
 }
 
-/// What a line says whose word is not that of an edit: a question, or a step in the history.
+/// What a line says whose word is not that of an edit: a question, a step in the history, or another set.
 fn read_other(word: &str, rest: Option<&str>) -> Result<Command, ScriptFault>
     ensures gives { result ≡ script.by_other_word word.now (option_copied rest.entry) }
     ensures ready { IfOk result script.IsReady }
@@ -234,6 +234,8 @@ fn read_other(word: &str, rest: Option<&str>) -> Result<Command, ScriptFault>
         Ok(Command::Redo)
     } else if word == "next" {
         read_next(rest)
+    } else if word == "swap" {
+        Ok(Command::Swap(only_number(rest)?))
     } else {
         Err(ScriptFault::UnknownCommand)
     }

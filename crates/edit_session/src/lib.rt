@@ -4,6 +4,7 @@
 mod around;
 mod editing;
 mod opening;
+mod reopening;
 mod session;
 mod undoing;
 

@@ -13,7 +13,7 @@ use simple_values::Value;
 use std::alloc::{AllocError, Global};
 
 /// What is found out about an element, and the value of its text, where that is valid by a simple type.
-#[derive(Debug, Drop)]
+#[derive(Drop)]
 pub struct JudgedElement {
     pub element: ElementRecord,
     pub value: Option<Value>,

@@ -29,7 +29,7 @@ pub struct AssessSet<'a> {
 }
 
 /// What is found out about an element and its attributes.
-#[derive(Debug, Drop)]
+#[derive(Drop)]
 pub struct Judged {
     pub element: ElementRecord,
     /// The value of its text, where that is valid by a simple type.

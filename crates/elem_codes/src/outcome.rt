@@ -7,7 +7,7 @@ use simple_values::Value;
 use xs_codes::Code;
 
 /// What the text of an element comes to by its governing type.
-#[derive(Debug, Drop)]
+#[derive(Drop)]
 pub enum TextOutcome {
     /// It is not read: the type is neither simple nor has simple content, or the element has child elements or is nil.
     NotRead,

@@ -13,7 +13,7 @@ use xs_lists::Listed;
 use xs_names::{NameId, Names, Scope};
 
 /// What an element has to show before it is governed.
-#[derive(Debug, Drop)]
+#[derive(Drop)]
 pub struct ElementHead {
     pub name: NameId,
     /// Its attributes in document order; bindings are none.

@@ -14,7 +14,7 @@ use xs_components::{Components, ElementId, Methods, TypeId};
 use xs_names::{Scope, Text, WhiteSpace, normalized, split_qname};
 
 /// What the attribute xsi:type of an element says (Structures 2.6.1, 3.3.4).
-#[derive(Clone, Copy, Debug, PartialEq, Eq)]
+#[derive(Clone, Copy)]
 pub enum XsiType {
     /// There is no such attribute.
     Absent,

@@ -3,7 +3,7 @@
 use xs_components::{ElementId, TypeId};
 
 /// How strictly an element is assessed (Structures 3.10.1, 5.2).
-#[derive(Clone, Copy, Debug, PartialEq, Eq)]
+#[derive(Clone, Copy, PartialEq)]
 pub enum Mode {
     /// There must be a declaration for it, or a type that xsi:type names.
     Strict,
@@ -15,7 +15,7 @@ pub enum Mode {
 
 /// What governs an element (Structures 5.2): its declaration, if there is one, and its type. An element that is skipped has
 /// neither.
-#[derive(Clone, Copy, Debug, PartialEq, Eq)]
+#[derive(Clone, Copy, PartialEq)]
 pub struct Governing {
     pub declaration: Option<ElementId>,
     pub of: Option<TypeId>,

@@ -1,13 +1,14 @@
 //! The tests by which the facets in force judge a value.
-ghost use Rattle.std.specs.Prelude.{◌≡◌};
+ghost use Rattle.std.specs.Prelude.{◌≡◌, IfOk};
 ghost use Rattle.std.specs.Option.{option_copied};
 ghost use Rattle.facet_checks.specs.Check as spec;
 
 use crate::order::{is_at_most, is_below};
-use crate::pattern::matches_each;
-use crate::{Bound, Count, FacetList, ValueList};
+use crate::pattern::{do_match_each, matches_each};
+use crate::{Bound, Count, FacetList, Shared, ValueSet};
 use dec_value::Dec;
-use simple_values::{Atom, Value, length, same};
+use simple_values::{Atom, Value, length};
+use std::alloc::{AllocError, Global};
 use xs_codes::Code;
 
 impl FacetList {
@@ -24,6 +25,21 @@ impl FacetList {
             return Some(Code::CvcPatternValid);
         }
         self.first_unmet(value)
+    }
+
+    /// The same as `check`, of facets that others share: memory for matching is taken meanwhile.
+    pub fn check_shared(
+        &self,
+        alloc: Global,
+        value: &Value,
+        text: &str,
+    ) -> Result<Option<Code>, AllocError>
+        ensures { IfOk result (λ code. spec.IsChecked self.now value.now text.now code) }
+    {
+        if !do_match_each(alloc, self.patterns.as_slice(), text)? {
+            return Ok(Some(Code::CvcPatternValid));
+        }
+        Ok(self.first_unmet(value))
     }
 
     // The code of the first facet, behind the patterns, that the value does not meet.
@@ -125,25 +141,13 @@ fn is_up_to(limit: Option<Count>, n: u32) -> bool
 }
 
 // Whether the value is one of those listed, if any are.
-fn is_listed(values: Option<&ValueList>, value: &Value) -> bool
+fn is_listed(values: Option<&Shared<ValueSet>>, value: &Value) -> bool
     ensures { result ≡ spec.is_listed (option_copied values.entry) value.now }
 {
     match values {
-        Some(values) => is_among(values.as_slice(), value),
+        Some(values) => values.get().has(value),
         None => true,
     }
-}
-
-// Whether the value is the same as one of these.
-fn is_among(values: &[Value], value: &Value) -> bool
-    ensures { result ≡ spec.is_among values.now value.now }
-{
-    for other in values {
-        if same(other, value) {
-            return true;
-        }
-    }
-    false
 }
 
 // Whether a value is at most the bound.

@@ -3,7 +3,7 @@ ghost use Rattle.std.specs.Prelude.{◌≡◌, IfOk, OnOk};
 ghost use Rattle.std.specs.Option.{option_copied};
 ghost use Rattle.facet_checks.specs.List.{no_facets, plain_part};
 
-use crate::PatternText;
+use crate::{PatternText, Shared, ValueSet};
 use simple_values::Value;
 use std::alloc::{AllocError, Global};
 use xs_lists::Listed;
@@ -11,21 +11,21 @@ use xs_names::WhiteSpace;
 
 /// A number that limits a length or a count of digits, and whether the types derived from this one have to keep it
 /// (Datatypes 4.3.1 to 4.3.3, 4.3.11 and 4.3.12).
-#[derive(Debug, Clone, Copy, PartialEq, Eq)]
+#[derive(Clone, Copy)]
 pub struct Count {
     pub value: u32,
     pub fixed: bool,
 }
 
 /// What is done with white space, and whether the types derived from this one have to keep it (Datatypes 4.3.6).
-#[derive(Debug, Clone, Copy, PartialEq, Eq)]
+#[derive(Clone, Copy)]
 pub struct Handling {
     pub value: WhiteSpace,
     pub fixed: bool,
 }
 
 /// The value of a bound, and whether the types derived from this one have to keep it (Datatypes 4.3.7 to 4.3.10).
-#[derive(Debug, Drop)]
+#[derive(Drop)]
 pub struct Bound {
     pub value: Value,
     pub fixed: bool,
@@ -47,11 +47,11 @@ impl Clone for Bound {
 pub type Alternatives = Listed<PatternText>;
 
 /// Values, in the order of the document.
-pub type ValueList = Listed<Value>;
+pub type ValueList = Listed<Shared<Value>>;
 
 /// The facets in force for a simple type, those of its steps of restriction merged (Structures 3.14.6). What is absent
 /// restricts nothing. A type whose steps have no fault has one upper and one lower bound at most.
-#[derive(Debug, Drop)]
+#[derive(Drop)]
 pub struct FacetList {
     /// Absent for unions, which leave white space to their members.
     pub white_space: Option<Handling>,
@@ -60,7 +60,8 @@ pub struct FacetList {
     pub length: Option<Count>,
     pub min_length: Option<Count>,
     pub max_length: Option<Count>,
-    pub enumeration: Option<ValueList>,
+    /// Shared with the types that are derived from the one whose step has it.
+    pub enumeration: Option<Shared<ValueSet>>,
     pub max_inclusive: Option<Bound>,
     pub max_exclusive: Option<Bound>,
     pub min_inclusive: Option<Bound>,
@@ -90,7 +91,7 @@ impl FacetList {
         }
     }
 
-    /// The same facets, with memory of their own.
+    /// The same facets, with memory of their own for matching.
     pub fn try_clone(&self, alloc: Global) -> Result<FacetList, AllocError>
         ensures { IfOk result (λ copy. copy ≡ self.now) }
     {
@@ -127,7 +128,7 @@ impl FacetList {
         ensures { OnOk result (copy.new ≡ self.now) }
     {
         copy.patterns = copied_steps(alloc, self.patterns.as_slice())?;
-        copy.enumeration = copied_values(self.enumeration.as_ref())?;
+        copy.enumeration = same_values(self.enumeration.as_ref())?;
         copy.max_inclusive = copied_bound(self.max_inclusive.as_ref())?;
         copy.max_exclusive = copied_bound(self.max_exclusive.as_ref())?;
         copy.min_inclusive = copied_bound(self.min_inclusive.as_ref())?;
@@ -145,19 +146,13 @@ fn copied_bound(bound: Option<&Bound>) -> Result<Option<Bound>, AllocError>
     }
 }
 
-fn copied_values(values: Option<&ValueList>) -> Result<Option<ValueList>, AllocError>
+fn same_values(values: Option<&Shared<ValueSet>>) -> Result<Option<Shared<ValueSet>>, AllocError>
     ensures { IfOk result (λ copy. copy ≡ option_copied values.entry) }
 {
     match values {
-        Some(values) => Ok(Some(cloned_values(values)?)),
+        Some(values) => Ok(Some(values.try_clone()?)),
         None => Ok(None),
     }
-}
-
-fn cloned_values(values: &ValueList) -> Result<ValueList, AllocError>
-    ensures { IfOk result (λ copy. copy ≡ values.now) }
-{
-    values.clone()
 }
 
 fn copied_steps(alloc: Global, steps: &[Alternatives]) -> Result<Listed<Alternatives>, AllocError>

@@ -13,7 +13,7 @@ use xs_names::Text;
 use xs_regex::Pattern;
 
 /// A pattern as it is written, ready to match texts (Datatypes 4.3.4). Contracts see its text.
-#[derive(Debug, Drop)]
+#[derive(Drop)]
 pub struct PatternText {
     text: Text,
     pattern: Pattern,
@@ -106,4 +106,32 @@ pub(crate) fn matches_each(steps: &mut [Listed<PatternText>], text: &str) -> boo
         }
     }
     true
+}
+
+/// Whether the text matches one of the patterns of each step, which are shared.
+pub(crate) fn do_match_each(
+    alloc: Global,
+    steps: &[Listed<PatternText>],
+    text: &str,
+) -> Result<bool, AllocError>
+    ensures { IfOk result (λ answer. IsTrue answer ↔ MatchesEach steps.now text.now) }
+{
+    for patterns in steps {
+        if !do_match_some(alloc, patterns.as_slice(), text)? {
+            return Ok(false);
+        }
+    }
+    Ok(true)
+}
+
+// Whether the text matches one of the patterns, of which each is copied while it is matched.
+fn do_match_some(alloc: Global, patterns: &[PatternText], text: &str) -> Result<bool, AllocError>
+    ensures { IfOk result (λ answer. IsTrue answer ↔ MatchesSome patterns.now text.now) }
+{
+    for pattern in patterns {
+        if pattern.try_clone(alloc)?.matches(text) {
+            return Ok(true);
+        }
+    }
+    Ok(false)
 }

@@ -7,7 +7,7 @@ use xs_codes::Builtin;
 use xs_components::FacetKind;
 
 /// Types that the same facets fit (Datatypes 4.1.5).
-#[derive(Debug, Clone, Copy, PartialEq, Eq)]
+#[derive(Clone, Copy)]
 pub enum Family {
     /// `anySimpleType`, which no facet fits.
     Open,

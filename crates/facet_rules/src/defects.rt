@@ -12,7 +12,7 @@ use xs_codes::{Code, Fault};
 use xs_components::FacetKind;
 
 // The index of the first facet of each kind of which a step has at most one.
-#[derive(Debug, Clone, Copy)]
+#[derive(Clone, Copy)]
 struct Firsts {
     length: Option<usize>,
     min_length: Option<usize>,

@@ -9,8 +9,8 @@ use crate::count_rules::note_counts;
 use crate::defects::{is_defined, note_defects};
 use crate::step::{count_of, first_of, handling_of, limit_of};
 use crate::{ReadFacet, ReadStep};
-use facet_checks::{Alternatives, Bound, Count, FacetList, Handling, ValueList};
-use std::alloc::AllocError;
+use facet_checks::{Alternatives, Bound, Count, FacetList, Handling, Shared, ValueList, ValueSet};
+use std::alloc::{AllocError, Global};
 use xs_codes::Fault;
 use xs_components::FacetKind;
 
@@ -21,17 +21,21 @@ use xs_components::FacetKind;
 /// # Errors
 ///
 /// The first fault of the step, by the places of its facets and then by the order of the codes.
-pub fn restricted(base: FacetList, step: ReadStep) -> Result<Result<FacetList, Fault>, AllocError>
+pub fn restricted(
+    alloc: Global,
+    base: FacetList,
+    step: ReadStep,
+) -> Result<Result<FacetList, Fault>, AllocError>
     ensures { IfOk result (λ outcome. outcome ≡ outcome_of base step) }
 {
     match first_of_faults(&base, step.facets.as_slice()) {
         Some(fault) => Ok(Err(fault)),
-        None => Ok(Ok(merged(base, step)?)),
+        None => Ok(Ok(merged(alloc, base, step)?)),
     }
 }
 
 /// What judging a step comes to, also where it is at fault: other types may be derived from the one that it makes.
-#[derive(Debug, Drop)]
+#[derive(Drop)]
 pub struct Judged {
     /// The first fault of the step.
     pub fault: Option<Fault>,
@@ -41,7 +45,7 @@ pub struct Judged {
 }
 
 /// The first fault of a step, and the facets in force behind it.
-pub fn judge(base: FacetList, step: ReadStep) -> Result<Judged, AllocError>
+pub fn judge(alloc: Global, base: FacetList, step: ReadStep) -> Result<Judged, AllocError>
     ensures { IfOk result (λ judged. judged ≡ judged_of base step) }
 {
     let fault = first_of_faults(&base, step.facets.as_slice());
@@ -50,7 +54,7 @@ pub fn judge(base: FacetList, step: ReadStep) -> Result<Judged, AllocError>
     }
     Ok(Judged {
         fault,
-        list: Some(merged(base, step)?),
+        list: Some(merged(alloc, base, step)?),
     })
 }
 
@@ -65,7 +69,7 @@ fn first_of_faults(base: &FacetList, facets: &[ReadFacet]) -> Option<Fault>
 }
 
 // What the step and its base make.
-fn merged(mut base: FacetList, step: ReadStep) -> Result<FacetList, AllocError>
+fn merged(alloc: Global, mut base: FacetList, step: ReadStep) -> Result<FacetList, AllocError>
     ensures { IfOk result (λ made. made ≡ spec.merged base step) }
 {
     let ReadStep {
@@ -73,13 +77,14 @@ fn merged(mut base: FacetList, step: ReadStep) -> Result<FacetList, AllocError>
         patterns,
         values,
     } = step;
-    put_step(&mut base, facets.as_slice(), patterns, values)?;
+    put_step(alloc, &mut base, facets.as_slice(), patterns, values)?;
     Ok(base)
 }
 
 // Puts a step behind its base, which is the base no longer. In place, since a list of facets that is moved field by field
 // takes long to prove.
 fn put_step(
+    alloc: Global,
     base: &mut FacetList,
     facets: &[ReadFacet],
     patterns: Alternatives,
@@ -90,7 +95,7 @@ fn put_step(
     put_counts(base, facets);
     put_upper(base, facets)?;
     put_lower(base, facets)?;
-    put_values(base, values);
+    put_values(alloc, base, values)?;
     put_patterns(base, patterns)
 }
 
@@ -130,12 +135,13 @@ fn put_lower(base: &mut FacetList, facets: &[ReadFacet]) -> Result<(), AllocErro
 }
 
 // The step's enumeration, if it has one, in place of the base's.
-fn put_values(base: &mut FacetList, own: ValueList)
-    ensures { base.new ≡ spec.with_values base.old own }
+fn put_values(alloc: Global, base: &mut FacetList, own: ValueList) -> Result<(), AllocError>
+    ensures { OnOk result (base.new ≡ spec.with_values base.old own) }
 {
     if !own.is_empty() {
-        base.enumeration = Some(own);
+        base.enumeration = Some(Shared::new(alloc, ValueSet::new(alloc, own)?)?);
     }
+    Ok(())
 }
 
 // The step's patterns, if it has some, behind the base's.

@@ -3,18 +3,18 @@ ghost use Rattle.std.specs.Prelude.{◌≡◌, OnOk};
 ghost use Rattle.facet_rules.specs.Read.{with_read};
 
 use crate::{ReadFacet, ReadStep, Reading};
-use facet_checks::PatternText;
+use facet_checks::{PatternText, Shared};
 use simple_values::Value;
 use std::alloc::AllocError;
 use xs_components::FacetItem;
 
 /// A facet that is read.
-#[derive(Debug, Drop)]
+#[derive(Drop)]
 pub enum FacetRead {
     /// Neither a pattern nor a value of an enumeration, or not read.
     Plain(Reading),
     Pattern(PatternText),
-    Value(Value),
+    Value(Shared<Value>),
 }
 
 /// Puts a facet behind those that are read.

@@ -11,7 +11,7 @@ use xs_lists::Listed;
 use xs_names::WhiteSpace;
 
 /// What came of reading a facet.
-#[derive(Debug, Drop)]
+#[derive(Drop)]
 pub enum Reading {
     /// The facet does not fit the base: `cos-applicable-facets`.
     Unfit,
@@ -30,7 +30,7 @@ pub enum Reading {
 }
 
 /// A facet, read.
-#[derive(Debug, Drop)]
+#[derive(Drop)]
 pub struct ReadFacet {
     pub kind: FacetKind,
     pub fixed: bool,
@@ -44,7 +44,7 @@ pub type ReadFacets = Listed<ReadFacet>;
 
 /// The facets of one step of restriction, in the order of the document, and those of its patterns and of its enumeration
 /// that are read.
-#[derive(Debug, Drop)]
+#[derive(Drop)]
 pub struct ReadStep {
     pub facets: ReadFacets,
     pub patterns: Alternatives,

@@ -11,7 +11,7 @@ use xs_codes::{Builtin, Code};
 use xs_names::{Scope, Text, WhiteSpace, count_items, normalized};
 
 /// A value, and the text that it was read from, its white space treated.
-#[derive(Debug, Drop)]
+#[derive(Drop)]
 pub struct Accepted {
     pub value: Value,
     pub text: Text,
@@ -23,19 +23,18 @@ pub struct Accepted {
 pub(crate) fn read_atomic(
     alloc: Global,
     kind: Builtin,
-    list: &mut FacetList,
+    list: &FacetList,
     text: &str,
     scope: &Scope,
 ) -> Result<Result<Accepted, Code>, AllocError>
-    ensures read { IfOk result (λ outcome. spec.IsAtomicRead kind list.old scope.now text.now outcome) }
-    ensures same { list.new ≡ list.old }
+    ensures { IfOk result (λ outcome. spec.IsAtomicRead kind list.now scope.now text.now outcome) }
 {
     let treated = normalized(alloc, way_of(list), text)?;
     if has_too_many(kind, treated.as_str()) {
         return Ok(Err(Code::XLimitItems));
     }
     match read_normalized(alloc, kind, treated.as_str(), scope)? {
-        Ok(value) => Ok(judged_value(list, value, treated)),
+        Ok(value) => judged_value(alloc, list, value, treated),
         Err(fault) => Ok(Err(code_of(fault))),
     }
 }
@@ -64,13 +63,17 @@ pub(crate) fn way_of(list: &FacetList) -> WhiteSpace
 }
 
 /// The value, if it meets the facets.
-pub(crate) fn judged_value(list: &mut FacetList, value: Value, text: Text) -> Result<Accepted, Code>
-    ensures judged { spec.IsJudged list.old value text result }
-    ensures same { list.new ≡ list.old }
+pub(crate) fn judged_value(
+    alloc: Global,
+    list: &FacetList,
+    value: Value,
+    text: Text,
+) -> Result<Result<Accepted, Code>, AllocError>
+    ensures { IfOk result (λ outcome. spec.IsJudged list.now value text outcome) }
 {
-    match list.check(&value, text.as_str()) {
-        Some(code) => Err(code),
-        None => Ok(Accepted { value, text }),
+    match list.check_shared(alloc, &value, text.as_str())? {
+        Some(code) => Ok(Err(code)),
+        None => Ok(Ok(Accepted { value, text })),
     }
 }
 

@@ -11,7 +11,7 @@ use crate::making::{choices_of, list_facets};
 use crate::members::{Literals, Members, Source};
 use crate::reading::read_step;
 use crate::trying::{read_literal, read_union};
-use facet_checks::FacetList;
+use facet_checks::{FacetList, Shared};
 use facet_rules::{Family, restricted};
 use simple_values::Value;
 use std::alloc::{AllocError, Global};
@@ -23,7 +23,7 @@ use xs_names::Scope;
 pub type Restricted = Result<Facets, Fault>;
 
 /// The facets in force for a simple type, and what its literals are.
-#[derive(Debug, Drop)]
+#[derive(Drop)]
 pub struct Facets {
     pub(crate) source: Source,
     pub(crate) list: FacetList,
@@ -48,7 +48,7 @@ impl Facets {
     {
         match choices_of(alloc, item)? {
             Some(choices) => Ok(Some(Facets {
-                source: Source::Literals(Literals::OfList(choices)),
+                source: Source::Literals(Literals::OfList(Shared::new(alloc, choices)?)),
                 list: list_facets(alloc),
             })),
             None => Ok(None),
@@ -56,13 +56,13 @@ impl Facets {
     }
 
     /// The facets of a union of these members: none, and white space is left to the members.
-    pub fn union_of(alloc: Global, members: Members) -> Facets
-        ensures { result ≡ spec.union_of members }
+    pub fn union_of(alloc: Global, members: Members) -> Result<Facets, AllocError>
+        ensures { IfOk result (λ facets. facets ≡ spec.union_of members) }
     {
-        Facets {
-            source: Source::Union(members),
+        Ok(Facets {
+            source: Source::Union(Shared::new(alloc, members)?),
             list: FacetList::new(alloc),
-        }
+        })
     }
 
     /// The facets of a restriction of a type by a step (Structures 3.14.6; Datatypes 4.3). The texts of the step are read in
@@ -79,10 +79,9 @@ impl Facets {
     ) -> Result<Restricted, AllocError>
         ensures { IfOk result (λ outcome. spec.IsRestricted base.now step.now outcome) }
     {
-        let mut base = base.try_clone(alloc)?;
-        let step = read_step(alloc, &mut base, Known::Whole, step.as_slice())?;
-        let Facets { source, list } = base;
-        match restricted(list, step)? {
+        let step = read_step(alloc, base, Known::Whole, step.as_slice())?;
+        let Facets { source, list } = base.try_clone(alloc)?;
+        match restricted(alloc, list, step)? {
             Ok(list) => Ok(Ok(Facets { source, list })),
             Err(fault) => Ok(Err(fault)),
         }
@@ -98,9 +97,8 @@ impl Facets {
     ) -> Result<Judged, AllocError>
         ensures { IfOk result (λ judged. spec.IsStepJudged base.now known step.now judged) }
     {
-        let mut base = base.try_clone(alloc)?;
-        let step = read_step(alloc, &mut base, known, step.as_slice())?;
-        judged_step(alloc, base, known, step)
+        let step = read_step(alloc, base, known, step.as_slice())?;
+        judged_step(alloc, base.try_clone(alloc)?, known, step)
     }
 
     /// The code of the first facet that a value does not meet; `None` where it meets all (Datatypes 4.1.4). The text is the one
@@ -114,23 +112,22 @@ impl Facets {
 
     /// What a text reads to as a literal of the type, or the code of why it is none.
     pub fn read(
-        &mut self,
+        &self,
         alloc: Global,
         text: &str,
         scope: &Scope,
     ) -> Result<Result<Accepted, Code>, AllocError>
-        ensures read { IfOk result (λ outcome. spec.IsRead self.old scope.now text.now outcome) }
-        ensures same { self.new ≡ self.old }
+        ensures { IfOk result (λ outcome. spec.IsRead self.now scope.now text.now outcome) }
     {
-        read_source(alloc, &mut self.source, &mut self.list, text, scope)
+        read_source(alloc, &self.source, &self.list, text, scope)
     }
 
-    /// The same facets, with memory of their own.
+    /// The same facets, with memory of their own for `check`.
     pub fn try_clone(&self, alloc: Global) -> Result<Facets, AllocError>
         ensures { IfOk result (λ copy. copy ≡ self.now) }
     {
         Ok(Facets {
-            source: self.source.try_clone(alloc)?,
+            source: self.source.try_clone()?,
             list: self.list.try_clone(alloc)?,
         })
     }
@@ -153,19 +150,17 @@ impl Facets {
 // What a text reads to as a literal of a source with these facets.
 fn read_source(
     alloc: Global,
-    source: &mut Source,
-    list: &mut FacetList,
+    source: &Source,
+    list: &FacetList,
     text: &str,
     scope: &Scope,
 ) -> Result<Result<Accepted, Code>, AllocError>
-    ensures read { IfOk result (λ outcome. spec.IsSourceRead source.old list.old scope.now text.now outcome) }
-    ensures source { source.new ≡ source.old }
-    ensures list { list.new ≡ list.old }
+    ensures { IfOk result (λ outcome. spec.IsSourceRead source.now list.now scope.now text.now outcome) }
 {
     match source {
         Source::Literals(literals) => read_literal(alloc, literals, list, text, scope),
-        Source::Union(members) => match read_union(alloc, members, text, scope)? {
-            Ok(accepted) => Ok(judged_value(list, accepted.value, accepted.text)),
+        Source::Union(members) => match read_union(alloc, members.get(), text, scope)? {
+            Ok(accepted) => judged_value(alloc, list, accepted.value, accepted.text),
             Err(code) => Ok(Err(code)),
         },
     }

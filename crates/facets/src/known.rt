@@ -10,7 +10,7 @@ use std::alloc::{AllocError, Global};
 use xs_codes::Fault;
 
 /// What is defined of a type, where others are at fault. Its built-in type, or that it is a list or a union, always is.
-#[derive(Debug, Clone, Copy, PartialEq, Eq)]
+#[derive(Clone, Copy)]
 pub enum Known {
     /// The facets in force for it, and what its literals are.
     Whole,
@@ -21,7 +21,7 @@ pub enum Known {
 }
 
 /// What judging a step comes to.
-#[derive(Debug, Drop)]
+#[derive(Drop)]
 pub struct Judged {
     /// The first fault of the step.
     pub fault: Option<Fault>,
@@ -39,27 +39,27 @@ pub(crate) fn judged_step(
     ensures { IfOk result (λ judged. judged ≡ spec.judged_by base known step) }
 {
     match known {
-        Known::Neither => judged_alone(FacetList::new(alloc), step),
-        _ => judged_whole(base, step),
+        Known::Neither => judged_alone(alloc, FacetList::new(alloc), step),
+        _ => judged_whole(alloc, base, step),
     }
 }
 
 // By no facets of a base: the fault alone.
-fn judged_alone(none: FacetList, step: ReadStep) -> Result<Judged, AllocError>
+fn judged_alone(alloc: Global, none: FacetList, step: ReadStep) -> Result<Judged, AllocError>
     ensures { IfOk result (λ judged. judged ≡ record { fault = (judged_of none step).fault; facets = None }) }
 {
-    let by_none = judge(none, step)?;
+    let by_none = judge(alloc, none, step)?;
     Ok(Judged {
         fault: by_none.fault,
         facets: None,
     })
 }
 
-fn judged_whole(base: Facets, step: ReadStep) -> Result<Judged, AllocError>
+fn judged_whole(alloc: Global, base: Facets, step: ReadStep) -> Result<Judged, AllocError>
     ensures { IfOk result (λ judged. judged ≡ spec.judged_whole base step) }
 {
     let Facets { source, list } = base;
-    let step_judged = judge(list, step)?;
+    let step_judged = judge(alloc, list, step)?;
     let (fault, made) = (step_judged.fault, step_judged.list);
     match made {
         Some(list) => Ok(Judged {

@@ -4,10 +4,10 @@ ghost use Rattle.facets.specs.Making as spec;
 
 use crate::Facets;
 use crate::members::{
-    Choices, Gate, Literals, Member, Members, Plain, Source, copied_gates, copied_literals,
-    copied_members,
+    Choices, Gate, Literals, Member, Members, Plain, Source, copied_gates, copied_members,
+    same_literals,
 };
-use facet_checks::{FacetList, Handling};
+use facet_checks::{FacetList, Handling, Shared};
 use simple_values::item_type;
 use std::alloc::{AllocError, Global};
 use xs_codes::Builtin;
@@ -33,15 +33,15 @@ impl Members {
             Source::Literals(literals) => {
                 let mut members = self.members;
                 members.push(Member {
-                    literals: copied_literals(alloc, literals)?,
-                    list: member.list.try_clone(alloc)?,
+                    literals: same_literals(literals)?,
+                    list: shared_list(alloc, &member.list)?,
                 })?;
                 Ok(Members {
                     members,
                     gates: self.gates,
                 })
             }
-            Source::Union(others) => with_union(alloc, self, others, &member.list),
+            Source::Union(others) => with_union(alloc, self, others.get(), &member.list),
         }
     }
 }
@@ -55,14 +55,21 @@ fn with_union(
     ensures { IfOk result (λ made. made ≡ spec.with_union all others.now list.now) }
 {
     let from = all.members.len();
-    let members = copied_members(alloc, all.members, others.members.as_slice())?;
-    let mut gates = copied_gates(alloc, all.gates, from, others.gates.as_slice())?;
+    let members = copied_members(all.members, others.members.as_slice())?;
+    let mut gates = copied_gates(all.gates, from, others.gates.as_slice())?;
     gates.push(Gate {
         from,
         to: members.len(),
-        list: list.try_clone(alloc)?,
+        list: shared_list(alloc, list)?,
     })?;
     Ok(Members { members, gates })
+}
+
+// These facets, to be shared by the unions and the lists that are made from the type.
+fn shared_list(alloc: Global, list: &FacetList) -> Result<Shared<FacetList>, AllocError>
+    ensures { IfOk result (λ shared. shared ≡ list.now) }
+{
+    Shared::new(alloc, list.try_clone(alloc)?)
 }
 
 /// The facets of a list, which collapses white space.
@@ -84,7 +91,7 @@ pub(crate) fn choices_of(alloc: Global, item: &Facets) -> Result<Option<Choices>
 {
     match &item.source {
         Source::Literals(literals) => choice_of_one(alloc, literals, &item.list),
-        Source::Union(members) => choice_of_union(alloc, members, &item.list),
+        Source::Union(members) => choice_of_union(alloc, members.get(), &item.list),
     }
 }
 
@@ -101,7 +108,7 @@ fn choice_of_one(
     let mut members = Listed::new(alloc);
     members.push(Plain {
         kind,
-        list: list.try_clone(alloc)?,
+        list: shared_list(alloc, list)?,
     })?;
     Ok(Some(Choices {
         members,
@@ -119,11 +126,11 @@ fn choice_of_union(
     let Some(plains) = plains_of(alloc, members.members.as_slice())? else {
         return Ok(None);
     };
-    let mut gates = copied_gates(alloc, Listed::new(alloc), 0, members.gates.as_slice())?;
+    let mut gates = copied_gates(Listed::new(alloc), 0, members.gates.as_slice())?;
     gates.push(Gate {
         from: 0,
         to: plains.len(),
-        list: list.try_clone(alloc)?,
+        list: shared_list(alloc, list)?,
     })?;
     Ok(Some(Choices {
         members: plains,
@@ -142,7 +149,7 @@ fn plains_of(alloc: Global, members: &[Member]) -> Result<Option<Listed<Plain>>,
         };
         plains.push(Plain {
             kind,
-            list: member.list.try_clone(alloc)?,
+            list: member.list.try_clone()?,
         })?;
     }
     Ok(Some(plains))

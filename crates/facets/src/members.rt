@@ -2,64 +2,64 @@
 ghost use Rattle.std.specs.Prelude.{◌≡◌, ◌++◌, IfOk};
 ghost use Rattle.facets.specs.Members as spec;
 
-use facet_checks::FacetList;
+use facet_checks::{FacetList, Shared};
 use facet_rules::{Family, family_of};
-use std::alloc::{AllocError, Global};
+use std::alloc::AllocError;
 use xs_codes::Builtin;
 use xs_lists::Listed;
 
 /// A type that is derived from a built-in one by restriction.
-#[derive(Debug, Drop)]
+#[derive(Drop)]
 pub struct Plain {
     pub(crate) kind: Builtin,
-    pub(crate) list: FacetList,
+    pub(crate) list: Shared<FacetList>,
 }
 
 /// A union among the members of another, which are those from an index and before another: what one of them accepts has to
 /// meet its facets too, or else they have all refused.
-#[derive(Debug, Drop)]
+#[derive(Drop)]
 pub struct Gate {
     pub(crate) from: usize,
     pub(crate) to: usize,
-    pub(crate) list: FacetList,
+    pub(crate) list: Shared<FacetList>,
 }
 
 /// What the items of a list are of: the first of these types that accepts an item.
-#[derive(Debug, Drop)]
+#[derive(Drop)]
 pub struct Choices {
     pub(crate) members: Listed<Plain>,
     pub(crate) gates: Listed<Gate>,
 }
 
 /// What the literals of a type are that is no union.
-#[derive(Debug, Drop)]
+#[derive(Drop)]
 pub enum Literals {
     /// Those of a built-in type.
     OfBuiltin(Builtin),
     /// Lists of items.
-    OfList(Choices),
+    OfList(Shared<Choices>),
 }
 
 /// A member of a union, which is no union itself.
-#[derive(Debug, Drop)]
+#[derive(Drop)]
 pub struct Member {
     pub(crate) literals: Literals,
-    pub(crate) list: FacetList,
+    pub(crate) list: Shared<FacetList>,
 }
 
 /// The members of a union, those of its unions among them (Structures 3.14.1): each tries a text in turn, and the first that
 /// accepts it decides.
-#[derive(Debug, Drop)]
+#[derive(Drop)]
 pub struct Members {
     pub(crate) members: Listed<Member>,
     pub(crate) gates: Listed<Gate>,
 }
 
 /// What the literals of a type are.
-#[derive(Debug, Drop)]
+#[derive(Drop)]
 pub enum Source {
     Literals(Literals),
-    Union(Members),
+    Union(Shared<Members>),
 }
 
 impl Source {
@@ -84,49 +84,29 @@ impl Source {
         }
     }
 
-    /// The same, with memory of its own.
-    pub(crate) fn try_clone(&self, alloc: Global) -> Result<Source, AllocError>
+    /// The same, whose members and items are shared.
+    pub(crate) fn try_clone(&self) -> Result<Source, AllocError>
         ensures { IfOk result (λ copy. copy ≡ self.now) }
     {
         match self {
-            Source::Literals(literals) => Ok(Source::Literals(copied_literals(alloc, literals)?)),
-            Source::Union(members) => Ok(Source::Union(Members {
-                members: copied_members(alloc, Listed::new(alloc), members.members.as_slice())?,
-                gates: same_gates(alloc, members.gates.as_slice())?,
-            })),
+            Source::Literals(literals) => Ok(Source::Literals(same_literals(literals)?)),
+            Source::Union(members) => Ok(Source::Union(members.try_clone()?)),
         }
     }
 }
 
-/// The same literals, with memory of their own.
-pub(crate) fn copied_literals(alloc: Global, literals: &Literals) -> Result<Literals, AllocError>
+/// The same literals, whose items are shared.
+pub(crate) fn same_literals(literals: &Literals) -> Result<Literals, AllocError>
     ensures { IfOk result (λ copy. copy ≡ literals.now) }
 {
     match literals {
         Literals::OfBuiltin(kind) => Ok(Literals::OfBuiltin(*kind)),
-        Literals::OfList(items) => Ok(Literals::OfList(Choices {
-            members: copied_plains(alloc, items.members.as_slice())?,
-            gates: same_gates(alloc, items.gates.as_slice())?,
-        })),
+        Literals::OfList(items) => Ok(Literals::OfList(items.try_clone()?)),
     }
 }
 
-fn copied_plains(alloc: Global, plains: &[Plain]) -> Result<Listed<Plain>, AllocError>
-    ensures { IfOk result (λ copies. copies ≡ plains.now) }
-{
-    let mut copies = Listed::new(alloc);
-    for plain in plains {
-        copies.push(Plain {
-            kind: plain.kind,
-            list: plain.list.try_clone(alloc)?,
-        })?;
-    }
-    Ok(copies)
-}
-
-/// Copies of these members, behind others.
+/// These members, behind others; what they are made of is shared.
 pub(crate) fn copied_members(
-    alloc: Global,
     front: Listed<Member>,
     members: &[Member],
 ) -> Result<Listed<Member>, AllocError>
@@ -135,31 +115,15 @@ pub(crate) fn copied_members(
     let mut all = front;
     for member in members {
         all.push(Member {
-            literals: copied_literals(alloc, &member.literals)?,
-            list: member.list.try_clone(alloc)?,
+            literals: same_literals(&member.literals)?,
+            list: member.list.try_clone()?,
         })?;
     }
     Ok(all)
 }
 
-// Copies of these gates.
-fn same_gates(alloc: Global, gates: &[Gate]) -> Result<Listed<Gate>, AllocError>
-    ensures { IfOk result (λ copies. copies ≡ gates.now) }
-{
-    let mut copies = Listed::new(alloc);
-    for gate in gates {
-        copies.push(Gate {
-            from: gate.from,
-            to: gate.to,
-            list: gate.list.try_clone(alloc)?,
-        })?;
-    }
-    Ok(copies)
-}
-
-/// Copies of these gates, moved on by so many members, behind others.
+/// These gates, moved on by so many members, behind others; their facets are shared.
 pub(crate) fn copied_gates(
-    alloc: Global,
     front: Listed<Gate>,
     by: usize,
     gates: &[Gate],
@@ -168,12 +132,12 @@ pub(crate) fn copied_gates(
 {
     let mut all = front;
     for gate in gates {
-        all.push(moved_gate(alloc, by, gate)?)?;
+        all.push(moved_gate(by, gate)?)?;
     }
     Ok(all)
 }
 
-fn moved_gate(alloc: Global, by: usize, gate: &Gate) -> Result<Gate, AllocError>
+fn moved_gate(by: usize, gate: &Gate) -> Result<Gate, AllocError>
     ensures { IfOk result (λ moved. moved ≡ spec.moved_gate by gate.now) }
 {
     let (Some(from), Some(to)) = (by.checked_add(gate.from), by.checked_add(gate.to)) else {
@@ -182,6 +146,6 @@ fn moved_gate(alloc: Global, by: usize, gate: &Gate) -> Result<Gate, AllocError>
     Ok(Gate {
         from,
         to,
-        list: gate.list.try_clone(alloc)?,
+        list: gate.list.try_clone()?,
     })
 }

@@ -3,7 +3,7 @@ ghost use Rattle.std.specs.Prelude.{◌≡◌, IfOk};
 ghost use Rattle.facets.specs.Reading as spec;
 
 use crate::{Facets, Known};
-use facet_checks::{Alternatives, ValueList};
+use facet_checks::{Alternatives, Shared, ValueList};
 use facet_rules::{FacetRead, ReadFacets, ReadStep, Reading, fits, push_read, read_text};
 use std::alloc::{AllocError, Global};
 use xs_codes::Code;
@@ -12,12 +12,11 @@ use xs_components::{FacetItem, FacetKind};
 /// The facets of a step of restriction of this base, read in the scope of each.
 pub(crate) fn read_step(
     alloc: Global,
-    base: &mut Facets,
+    base: &Facets,
     known: Known,
     items: &[FacetItem],
 ) -> Result<ReadStep, AllocError>
-    ensures read { IfOk result (λ step. spec.IsStepReadBy base.old known items.now step) }
-    ensures same { base.new ≡ base.old }
+    ensures { IfOk result (λ step. spec.IsStepReadBy base.now known items.now step) }
 {
     let mut step = ReadStep {
         facets: ReadFacets::new(alloc),
@@ -34,12 +33,11 @@ pub(crate) fn read_step(
 // One facet, read.
 fn read_facet(
     alloc: Global,
-    base: &mut Facets,
+    base: &Facets,
     known: Known,
     item: &FacetItem,
 ) -> Result<FacetRead, AllocError>
-    ensures read { IfOk result (λ read. spec.IsFacetRead base.old known item.now read) }
-    ensures same { base.new ≡ base.old }
+    ensures { IfOk result (λ read. spec.IsFacetRead base.now known item.now read) }
 {
     if !fits(base.family(), item.kind) {
         return Ok(FacetRead::Plain(Reading::Unfit));
@@ -59,12 +57,11 @@ fn is_read_by_base(known: Known, kind: FacetKind) -> bool
 }
 
 // The value of an enumeration, which the base has to accept.
-fn read_value(alloc: Global, base: &mut Facets, item: &FacetItem) -> Result<FacetRead, AllocError>
-    ensures read { IfOk result (λ read. spec.IsValueRead base.old item.now read) }
-    ensures same { base.new ≡ base.old }
+fn read_value(alloc: Global, base: &Facets, item: &FacetItem) -> Result<FacetRead, AllocError>
+    ensures { IfOk result (λ read. spec.IsValueRead base.now item.now read) }
 {
     match base.read(alloc, item.text.as_str(), &item.scope)? {
-        Ok(accepted) => Ok(FacetRead::Value(accepted.value)),
+        Ok(accepted) => Ok(FacetRead::Value(Shared::new(alloc, accepted.value)?)),
         Err(code) => Ok(FacetRead::Plain(Reading::Refused(value_code(code)))),
     }
 }

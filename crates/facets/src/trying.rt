@@ -18,35 +18,32 @@ pub(crate) type Outcome = Result<Accepted, Code>;
 /// the trial (Structures 3.14.4).
 pub(crate) fn read_union(
     alloc: Global,
-    union_of: &mut Members,
+    union_of: &Members,
     text: &str,
     scope: &Scope,
 ) -> Result<Outcome, AllocError>
-    ensures read { IfOk result (λ outcome. spec.IsUnionRead union_of.old scope.now text.now outcome) }
-    ensures same { union_of.new ≡ union_of.old }
+    ensures { IfOk result (λ outcome. spec.IsUnionRead union_of.now scope.now text.now outcome) }
 {
-    let members = union_of.members.as_mut_slice();
-    try_members(alloc, members, union_of.gates.as_mut_slice(), text, scope)
+    let members = union_of.members.as_slice();
+    try_members(alloc, members, union_of.gates.as_slice(), text, scope)
 }
 
 fn try_members(
     alloc: Global,
-    members: &mut [Member],
-    gates: &mut [Gate],
+    members: &[Member],
+    gates: &[Gate],
     text: &str,
     scope: &Scope,
 ) -> Result<Outcome, AllocError>
-    ensures read { IfOk result (λ outcome. spec.AreMembersTried gates.old scope.now text.now 0 0 members.old outcome) }
-    ensures members { members.new ≡ members.old }
-    ensures gates { gates.new ≡ gates.old }
+    ensures { IfOk result (λ outcome. spec.AreMembersTried gates.now scope.now text.now 0 0 members.now outcome) }
 {
     let mut start = 0;
     for index in 0..members.len() {
         if index < start {
             continue;
         }
-        let read = read_member(alloc, &mut members[index], text, scope)?;
-        match turn_of(read, gates, index, start) {
+        let read = read_member(alloc, &members[index], text, scope)?;
+        match turn_of(alloc, read, gates, index, start)? {
             Turn::Ends(outcome) => return Ok(outcome),
             Turn::From(next) => start = next,
         }
@@ -56,22 +53,20 @@ fn try_members(
 
 fn try_plains(
     alloc: Global,
-    members: &mut [Plain],
-    gates: &mut [Gate],
+    members: &[Plain],
+    gates: &[Gate],
     text: &str,
     scope: &Scope,
 ) -> Result<Outcome, AllocError>
-    ensures read { IfOk result (λ outcome. spec.ArePlainsTried gates.old scope.now text.now 0 0 members.old outcome) }
-    ensures members { members.new ≡ members.old }
-    ensures gates { gates.new ≡ gates.old }
+    ensures { IfOk result (λ outcome. spec.ArePlainsTried gates.now scope.now text.now 0 0 members.now outcome) }
 {
     let mut start = 0;
     for place in 0..members.len() {
         if place < start {
             continue;
         }
-        let read = read_plain(alloc, &mut members[place], text, scope)?;
-        match turn_of(read, gates, place, start) {
+        let read = read_plain(alloc, &members[place], text, scope)?;
+        match turn_of(alloc, read, gates, place, start)? {
             Turn::Ends(outcome) => return Ok(outcome),
             Turn::From(next) => start = next,
         }
@@ -80,7 +75,7 @@ fn try_plains(
 }
 
 /// What comes of a member's answer in a trial.
-#[derive(Debug, Drop)]
+#[derive(Drop)]
 pub enum Turn {
     /// The trial ends with this.
     Ends(Result<Accepted, Code>),
@@ -89,49 +84,63 @@ pub enum Turn {
 }
 
 // What comes of a member's answer, where the members from an index on are still to try.
-fn turn_of(read: Outcome, gates: &mut [Gate], index: usize, start: usize) -> Turn
-    ensures turn { spec.IsTurn gates.old index start read result }
-    ensures same { gates.new ≡ gates.old }
+fn turn_of(
+    alloc: Global,
+    read: Outcome,
+    gates: &[Gate],
+    index: usize,
+    start: usize,
+) -> Result<Turn, AllocError>
+    ensures { IfOk result (λ turn. spec.IsTurn gates.now index start read turn) }
 {
     match read {
-        Ok(accepted) => match shut_by(gates, index, &accepted) {
-            Some(next) => Turn::From(next),
-            None => Turn::Ends(Ok(accepted)),
+        Ok(accepted) => match shut_by(alloc, gates, index, &accepted)? {
+            Some(next) => Ok(Turn::From(next)),
+            None => Ok(Turn::Ends(Ok(accepted))),
         },
         Err(code) => {
             if is_limit(code) {
-                Turn::Ends(Err(code))
+                Ok(Turn::Ends(Err(code)))
             } else {
-                Turn::From(start)
+                Ok(Turn::From(start))
             }
         }
     }
 }
 
 // Where the first union ends that has the member of an index and whose facets what it accepted does not meet.
-fn shut_by(gates: &mut [Gate], index: usize, accepted: &Accepted) -> Option<usize>
-    ensures shut { spec.IsShut gates.old index accepted.now result }
-    ensures same { gates.new ≡ gates.old }
+fn shut_by(
+    alloc: Global,
+    gates: &[Gate],
+    index: usize,
+    accepted: &Accepted,
+) -> Result<Option<usize>, AllocError>
+    ensures { IfOk result (λ shut. spec.IsShut gates.now index accepted.now shut) }
 {
-    for i in 0..gates.len() {
-        if let Some(next) = shut_at(&mut gates[i], index, accepted) {
-            return Some(next);
+    for gate in gates {
+        if let Some(next) = shut_at(alloc, gate, index, accepted)? {
+            return Ok(Some(next));
         }
     }
-    None
+    Ok(None)
 }
 
 // Where this union ends, if it has the member and its facets are not met.
-fn shut_at(gate: &mut Gate, index: usize, accepted: &Accepted) -> Option<usize>
-    ensures shut { spec.IsShutAt gate.old index accepted.now result }
-    ensures same { gate.new ≡ gate.old }
+fn shut_at(
+    alloc: Global,
+    gate: &Gate,
+    index: usize,
+    accepted: &Accepted,
+) -> Result<Option<usize>, AllocError>
+    ensures { IfOk result (λ shut. spec.IsShutAt gate.now index accepted.now shut) }
 {
     if index < gate.from || gate.to <= index {
-        return None;
+        return Ok(None);
     }
-    match gate.list.check(&accepted.value, accepted.text.as_str()) {
-        Some(_) => Some(gate.to),
-        None => None,
+    let list = gate.list.get();
+    match list.check_shared(alloc, &accepted.value, accepted.text.as_str())? {
+        Some(_) => Ok(Some(gate.to)),
+        None => Ok(None),
     }
 }
 
@@ -144,57 +153,51 @@ fn is_limit(code: Code) -> bool
 
 fn read_plain(
     alloc: Global,
-    plain: &mut Plain,
+    plain: &Plain,
     text: &str,
     scope: &Scope,
 ) -> Result<Outcome, AllocError>
-    ensures read { IfOk result (λ outcome. spec.IsPlainRead scope.now text.now plain.old outcome) }
-    ensures same { plain.new ≡ plain.old }
+    ensures { IfOk result (λ outcome. spec.IsPlainRead scope.now text.now plain.now outcome) }
 {
-    read_atomic(alloc, plain.kind, &mut plain.list, text, scope)
+    read_atomic(alloc, plain.kind, plain.list.get(), text, scope)
 }
 
 fn read_member(
     alloc: Global,
-    member: &mut Member,
+    member: &Member,
     text: &str,
     scope: &Scope,
 ) -> Result<Outcome, AllocError>
-    ensures read { IfOk result (λ outcome. spec.IsMemberRead scope.now text.now member.old outcome) }
-    ensures same { member.new ≡ member.old }
+    ensures { IfOk result (λ outcome. spec.IsMemberRead scope.now text.now member.now outcome) }
 {
-    read_literal(alloc, &mut member.literals, &mut member.list, text, scope)
+    read_literal(alloc, &member.literals, member.list.get(), text, scope)
 }
 
 /// What a text reads to as a literal of a type that is no union and has these facets.
 pub(crate) fn read_literal(
     alloc: Global,
-    literals: &mut Literals,
-    list: &mut FacetList,
+    literals: &Literals,
+    list: &FacetList,
     text: &str,
     scope: &Scope,
 ) -> Result<Outcome, AllocError>
-    ensures read { IfOk result (λ outcome. spec.IsLiteralRead literals.old list.old scope.now text.now outcome) }
-    ensures literals { literals.new ≡ literals.old }
-    ensures list { list.new ≡ list.old }
+    ensures { IfOk result (λ outcome. spec.IsLiteralRead literals.now list.now scope.now text.now outcome) }
 {
     match literals {
         Literals::OfBuiltin(kind) => read_atomic(alloc, *kind, list, text, scope),
-        Literals::OfList(choices) => read_list(alloc, choices, list, text, scope),
+        Literals::OfList(choices) => read_list(alloc, choices.get(), list, text, scope),
     }
 }
 
 // What a text reads to as a list of items (Datatypes 4.1.4).
 fn read_list(
     alloc: Global,
-    choices: &mut Choices,
-    list: &mut FacetList,
+    choices: &Choices,
+    list: &FacetList,
     text: &str,
     scope: &Scope,
 ) -> Result<Outcome, AllocError>
-    ensures read { IfOk result (λ outcome. spec.IsListRead choices.old list.old scope.now text.now outcome) }
-    ensures choices { choices.new ≡ choices.old }
-    ensures list { list.new ≡ list.old }
+    ensures { IfOk result (λ outcome. spec.IsListRead choices.now list.now scope.now text.now outcome) }
 {
     let treated = normalized(alloc, way_of(list), text)?;
     if count_items(treated.as_str()) > MOST_ITEMS {
@@ -202,7 +205,7 @@ fn read_list(
     }
     let texts = items(alloc, treated.as_str())?;
     match read_items(alloc, choices, texts.as_slice(), scope)? {
-        Ok(atoms) => Ok(judged_value(list, Value::List(atoms), treated)),
+        Ok(atoms) => judged_value(alloc, list, Value::List(atoms), treated),
         Err(code) => Ok(Err(code)),
     }
 }
@@ -210,12 +213,11 @@ fn read_list(
 // The items of a list, or the code of the first that is not valid.
 fn read_items(
     alloc: Global,
-    choices: &mut Choices,
+    choices: &Choices,
     texts: &[Text],
     scope: &Scope,
 ) -> Result<Result<Atoms, Code>, AllocError>
-    ensures read { IfOk result (λ outcome. spec.AreItemsRead choices.old scope.now [] texts.now outcome) }
-    ensures same { choices.new ≡ choices.old }
+    ensures { IfOk result (λ outcome. spec.AreItemsRead choices.now scope.now [] texts.now outcome) }
 {
     let mut atoms = Atoms::new(alloc);
     for text in texts {
@@ -230,15 +232,14 @@ fn read_items(
 // One item.
 fn read_item(
     alloc: Global,
-    choices: &mut Choices,
+    choices: &Choices,
     text: &str,
     scope: &Scope,
 ) -> Result<Outcome, AllocError>
-    ensures read { IfOk result (λ outcome. spec.IsItemRead choices.old scope.now text.now outcome) }
-    ensures same { choices.new ≡ choices.old }
+    ensures { IfOk result (λ outcome. spec.IsItemRead choices.now scope.now text.now outcome) }
 {
-    let members = choices.members.as_mut_slice();
-    try_plains(alloc, members, choices.gates.as_mut_slice(), text, scope)
+    let members = choices.members.as_slice();
+    try_plains(alloc, members, choices.gates.as_slice(), text, scope)
 }
 
 // Puts the atom that a value is at the end, or those that it has.

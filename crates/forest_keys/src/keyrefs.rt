@@ -17,8 +17,12 @@ fn key_of(kind: ConstraintKind) -> Option<u32>
     }
 }
 
-/// The keys and uniques to which keyrefs refer.
-pub(crate) fn references_of(alloc: Global, parts: &Components) -> Result<References, AllocError>
+/// The keys and uniques to which the keyrefs of a schema set refer (Structures 3.11.1).
+///
+/// # Errors
+///
+/// `AllocError` is want of memory, or there are more than 2,147,483,648 constraints.
+pub fn references_of(alloc: Global, parts: &Components) -> Result<References, AllocError>
     ensures { IfOk result (AreReferencesOf parts.now.constraints.parts) }
 {
     let mut references = References::new(alloc);

@@ -8,3 +8,6 @@ mod putting;
 mod reading;
 
 pub use all_codes::forest_codes;
+pub use keyrefs::references_of;
+pub use putting::Counting;
+pub use reading::element_codes;

@@ -17,7 +17,7 @@ use xs_components::ConstraintId;
 
 /// What targets are found by, and what they are counted by.
 #[derive(Clone, Copy)]
-pub(crate) struct Counting<'a> {
+pub struct Counting<'a> {
     pub set: KeySet<'a>,
     pub tree: KeyTree<'a>,
 }

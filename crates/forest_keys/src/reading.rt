@@ -123,8 +123,13 @@ fn push_code(codes: &mut Listed<Found>, code: Option<Code>) -> Result<(), AllocE
     Ok(())
 }
 
-// The codes of an element.
-fn codes_of(
+/// The codes of an element, read off the records that have its targets and those of all elements below it: of each of its identity
+/// constraints, in order, the first that is broken of cvc-identity-constraint.3 to .4.3 (Structures 3.11.4).
+///
+/// # Errors
+///
+/// `AllocError` is want of memory, or a constraint has a number of 2,147,483,648 or more.
+pub fn element_codes(
     by: &Counting<'_>,
     records: &KeyRecords,
     place: u32,
@@ -160,7 +165,7 @@ pub(crate) fn read_all<T: KeySiblings>(
     let mut left = siblings;
     'left: while let Some(own) = left.first() {
         let place = codes.len();
-        let found = codes_of(by, records, place as u32, &own)?;
+        let found = element_codes(by, records, place as u32, &own)?;
         codes.push(found)?;
         read_all(by, records, left.below(), codes)?;
         left = left.next();

@@ -9,7 +9,7 @@ use xpath_subset::Paths;
 use xs_lists::Listed;
 
 /// The paths of an identity constraint, read in the scopes of the elements in which they are written.
-#[derive(Debug, Drop)]
+#[derive(Drop)]
 pub struct IdentityPaths {
     /// Those of the selector.
     pub selector: Paths,

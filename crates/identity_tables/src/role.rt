@@ -6,7 +6,7 @@ ghost use Rattle.identity_tables.specs.Ids as spec;
 use xs_codes::Builtin;
 
 /// What an atom is for the IDs of a document, by the type that accepted it.
-#[derive(Clone, Copy, Debug, PartialEq, Eq)]
+#[derive(Clone, Copy)]
 pub enum IdRole {
     /// An ID (Datatypes 3.3.8).
     Id,

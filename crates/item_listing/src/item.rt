@@ -5,7 +5,7 @@ use xs_names::{Text, Texts};
 pub type Locations = Texts;
 
 /// What a line says.
-#[derive(Debug, Drop)]
+#[derive(Drop)]
 pub enum Item {
     /// `(name`: the start of an element.
     Start(Text),
@@ -35,7 +35,7 @@ pub enum Item {
 pub type Items = Listed<Item>;
 
 /// Why a line is refused.
-#[derive(Clone, Copy, Debug, PartialEq, Eq)]
+#[derive(Clone, Copy)]
 pub enum Reason {
     /// Its bytes are not UTF-8.
     NotUtf8,

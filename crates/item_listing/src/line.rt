@@ -11,7 +11,7 @@ use std::str;
 use xs_names::Text;
 
 /// Why a line gave no item.
-#[derive(Clone, Copy, Debug)]
+#[derive(Clone, Copy)]
 pub enum LineError {
     Memory,
     Refused(Reason),

@@ -17,7 +17,7 @@ use std::alloc::{AllocError, Global};
 use std::marker::Model;
 
 /// Why no item was read.
-#[derive(Clone, Copy, Debug)]
+#[derive(Clone, Copy)]
 enum ListError {
     Memory,
     Fault(ListingFault),

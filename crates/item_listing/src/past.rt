@@ -6,7 +6,7 @@ ghost use Rattle.item_listing.specs.State.{nothing_past};
 use crate::{Item, Reason};
 
 /// A line that is refused, by its number from 1.
-#[derive(Clone, Copy, Debug, PartialEq, Eq)]
+#[derive(Clone, Copy)]
 pub struct ListingFault {
     pub line: u32,
     pub reason: Reason,
@@ -14,7 +14,7 @@ pub struct ListingFault {
 
 /// What was read of a stream: how many bytes with the line feeds, how many lines, whether the line that was
 /// read last was a start or an attribute, and whether it was `end`.
-#[derive(Clone, Copy, Debug)]
+#[derive(Clone, Copy)]
 pub struct Past {
     pub bytes: usize,
     pub lines: u32,

@@ -4,4 +4,5 @@ mod Counts
 mod Children
 mod Again
 pub mod Moving
+pub mod Identity
 mod Opening

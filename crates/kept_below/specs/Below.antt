@@ -23,6 +23,10 @@ pub record IsSettled (ns : Nodes) (old new : KeptState) (element : Governed) : T
   pub pair_is : pair_at new.records.slots element.node ≡ element.pair
   pub rest : KeepsBut (IsWithin ns element.node) old new
 
+-- each element has the codes of its identity constraints that it had
+abbrev pub KeepsIdentity : KeptState → KeptState → Type 0
+KeepsIdentity old new = (n : ℕ) → (kept_at new.records.slots n).identity ≡ (kept_at old.records.slots n).identity
+
 -- ---- an element with its child elements
 
 -- an element is kept anew: governed so, with this of its child elements, and judged by it; then the list that it had is given back

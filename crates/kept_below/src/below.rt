@@ -18,7 +18,7 @@ ghost use Rattle.child_listing.specs.from_kept_state.Governed.{Governed as Gover
 ghost use Rattle.child_listing.specs.from_kept_judging.Judged.{AreChildren, pair_by};
 ghost use Rattle.child_listing.specs.Children.{AreGoverned, IsFresh, IsSpare};
 ghost use Rattle.kept_forgetting.specs.Below.{IsBelow, KeepsBut};
-ghost use Rattle.kept_below.specs.Below.{AreAbove, IsMadeAnew, IsSettled};
+ghost use Rattle.kept_below.specs.Below.{AreAbove, IsMadeAnew, IsSettled, KeepsIdentity};
 ghost use Rattle.kept_below.specs.Moved.{AreGivenDown, moved};
 
 use assess_records::ChildCounts;
@@ -88,6 +88,7 @@ fn settle_all<L: Ledger>(
     ensures counts { IfOk result (λ counts. counts ≡ counts_of (map (λ child. record_at kept.new.records.slots child.node) children.now)) }
     ensures fit { OnOk result ((parent : GovernedData) (waiting : List ℕ) → AreGoverned set.old doc.now parent children.now → FitBut set.old doc.now kept.old (parent.node ∷ waiting) → FitBut set.old doc.now kept.new (parent.node ∷ waiting)) }
     ensures rest { OnOk result ((parent : GovernedData) → AreGoverned set.old doc.now parent children.now → KeepsBut (IsBelow doc.now parent.node) kept.old kept.new) }
+    ensures identity { OnOk result (KeepsIdentity kept.old kept.new) }
     ensures beside { OnOk result (IsBeside set.old doc.now kept.new) }
     ensures same { set.new ≡ set.old }
     ensures least { steps.old ≤ steps.new }
@@ -120,6 +121,7 @@ fn settle_children<L: Ledger>(
     ensures fresh { IfOk result (λ children. IsFresh kept.old.lists children.list) }
     ensures fit { OnOk result ((waiting : List ℕ) → FitBut set.old doc.now kept.old (parent.now.node ∷ waiting) → FitBut set.old doc.now kept.new (parent.now.node ∷ waiting)) }
     ensures rest { OnOk result (KeepsBut (IsBelow doc.now parent.now.node) kept.old kept.new) }
+    ensures identity { OnOk result (KeepsIdentity kept.old kept.new) }
     ensures beside { OnOk result (IsBeside set.old doc.now kept.new) }
     ensures same { set.new ≡ set.old }
     ensures least { steps.old ≤ steps.new }
@@ -158,6 +160,7 @@ pub fn settle_again<L: Ledger>(
     requires fit { (waiting : List ℕ) × FitBut set.old doc.now kept.old (element.now.node ∷ waiting) × AboveIn doc.now element.now.node waiting × AreAbove doc.now element.now.node waiting }
     ensures settled { OnOk result (IsSettled doc.now kept.old kept.new element.now) }
     ensures fit { OnOk result ((waiting : List ℕ) → FitBut set.old doc.now kept.old (element.now.node ∷ waiting) → AboveIn doc.now element.now.node waiting → FitBut set.old doc.now kept.new waiting) }
+    ensures identity { OnOk result (KeepsIdentity kept.old kept.new) }
     ensures beside { OnOk result (IsBeside set.old doc.now kept.new) }
     ensures same { set.new ≡ set.old }
     ensures least { steps.old ≤ steps.new }
@@ -191,6 +194,7 @@ pub fn settle_below<L: Ledger>(
     requires fit { (waiting : List ℕ) × FitBut set.old doc.now kept.old waiting × AboveIn doc.now element.now.node waiting × AreAbove doc.now element.now.node waiting }
     ensures settled { OnOk result (IsSettled doc.now kept.old kept.new element.now) }
     ensures fit { OnOk result ((waiting : List ℕ) → FitBut set.old doc.now kept.old waiting → AboveIn doc.now element.now.node waiting → FitBut set.old doc.now kept.new waiting) }
+    ensures identity { OnOk result (KeepsIdentity kept.old kept.new) }
     ensures beside { OnOk result (IsBeside set.old doc.now kept.new) }
     ensures same { set.new ≡ set.old }
     ensures least { steps.old ≤ steps.new }

@@ -64,7 +64,7 @@ module _ (t : NameTable) (old new : Nodes) (p place : ℕ) (f : Forest) (plants 
   root-by (element number name bindings attributes children next) root s = ap is_element_by s.0.is ∙ ap is_element s.0.content
 
   -- the root of a part that is planted is an element
-  come-root : HasRoot f → is_element_at new (length old) ≡ true
+  pub come-root : HasRoot f → is_element_at new (length old) ≡ true
   come-root root = root-by f root plants.stand
 
   pub plants-come : ComesAt old new p place (length old)

@@ -39,7 +39,7 @@ use Rattle.kept_changes.proofs.Came.{come-elements, come-up, part-came, plants-c
 -- ---- nodes
 
 -- what has a parent and is no element is a text
-text-by : (ns : Nodes) (key p : ℕ) → is_element_at ns key ≡ false → parent_at ns key ≡ Some p → HoldsChars ns key
+pub text-by : (ns : Nodes) (key p : ℕ) → is_element_at ns key ≡ false → parent_at ns key ≡ Some p → HoldsChars ns key
 text-by ns key p is up = by (node ns key) refl
   where
     content-by : (it : Node) → IsNode ns key it → (held : Content) → it.content ≡ held → HoldsChars ns key
@@ -51,7 +51,7 @@ text-by ns key p is up = by (node ns key) refl
     by (Some it) e = content-by it e it.content refl
 
 -- nothing is below a text
-text-over : (t : NameTable) (ns : Nodes) (d : Document) → StandsFor t ns d → (key : ℕ) → HoldsChars ns key → IsOver t ns key none
+pub text-over : (t : NameTable) (ns : Nodes) (d : Document) → StandsFor t ns d → (key : ℕ) → HoldsChars ns key → IsOver t ns key none
 text-over t ns d z key h =
     let own : IsTextOf t ns d key = text_of t ns d z key h.it h.chars h.is h.holds in record {
       it = own.shown.text;

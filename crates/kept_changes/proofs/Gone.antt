@@ -33,10 +33,11 @@ use Rattle.kept_children.specs.Steps.{digits, marked_count, width}
 use Rattle.kept_children.specs.from_child_lists.Family.{marked_places}
 use Rattle.kept_children.specs.from_child_lists.Places.{IsPlaceOf}
 use Rattle.kept_children.specs.from_child_lists.ChildPlace.{ChildPlace}
+use Rattle.kept_changes.specs.Turned.{Goes}
 use Rattle.kept_changes.specs.Steps.{TakesBelow}
 
 -- what has a node of these numbers as a child's descendant is below its parent
-has-below : (t : NameTable) (ns : Nodes) → IsSound ns → (n : ℕ) (f : Forest) → StandFor t ns f → ((x : ℕ) → Has x (firsts f) → parent_at ns x ≡ Some n) → (m : ℕ) → has m f ≡ true → IsBelow ns n m
+pub has-below : (t : NameTable) (ns : Nodes) → IsSound ns → (n : ℕ) (f : Forest) → StandFor t ns f → ((x : ℕ) → Has x (firsts f) → parent_at ns x ≡ Some n) → (m : ℕ) → has m f ≡ true → IsBelow ns n m
 has-below t ns sound n none s up m h = absurd (false≢true h)
 has-below t ns sound n (text number chars next) s up m h = elim (or_cases (number == m) (has m next) h) [
   | inl own ↦ subst (IsBelow ns n) (eqb-true number m own) (child-below ns number n number (up number (inl refl)) (self-within ns number))
@@ -82,6 +83,9 @@ module _ (c : Compiled) (old : Nodes) (before : KeptState) (right : IsRightFor c
 
   module _ (k : KeptState) (forgets : Forgets old before k spot.node) (kept : IsBeside c old k) (new : Nodes) (e : Document) (z : StandsFor c.names new e)
       (change : (below : Forest) → IsOver c.names old spot.node below → (p place : ℕ) → IsChildAt old p place spot.node → Prunes old new p place spot.node below) where
+    pub goes : Goes c.names old new spot.node
+    goes = record { element = element; parent = spot.parent; place = place.0; below = below; child = child; over = over; prunes = change below over spot.parent place.0 child }
+
     prunes : Prunes old new spot.parent place.0 spot.node below
     prunes = change below over spot.parent place.0 child
 

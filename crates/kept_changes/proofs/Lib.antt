@@ -5,8 +5,10 @@ pub mod Reattributed
 pub mod Came
 pub mod Gone
 pub mod Following
+pub mod Turned
 pub mod RootNamed
 pub mod Grown
 pub mod Under
+pub mod from_kept_children
 pub mod from_kept_forgetting
 pub mod from_kept_records

@@ -1,5 +1,6 @@
 pub mod Own
 pub mod Spots
+pub mod Turned
 pub mod Steps
 pub mod from_child_lists
 pub mod from_kept_below
@@ -7,3 +8,4 @@ pub mod from_kept_children
 pub mod from_kept_judging
 pub mod from_kept_records
 pub mod from_kept_state
+pub mod from_kept_forgetting

@@ -8,9 +8,10 @@ use Rattle.doc_edits.specs.declared.change.Change.{Change}
 use Rattle.doc_edits.specs.declared.change.Change.TheVariants as changes
 use Rattle.compiled_schema.specs.Usable.{set_of}
 use Rattle.kept_children.specs.from_kept_records.Fit.{head_at}
-use Rattle.kept_children.specs.from_kept_records.Slots.{pair_at}
+use Rattle.kept_children.specs.from_kept_records.Slots.{kept_at, pair_at}
 use Rattle.kept_children.specs.from_kept_state.KeptState.{KeptState}
 use Rattle.kept_children.specs.from_kept_judging.Judged.{again_pair}
+use Rattle.kept_children.specs.from_kept_forgetting.Below.{IsWithin}
 use Rattle.kept_children.specs.Edited.{IsRightFor, ComesAt}
 use Rattle.kept_children.specs.Steps.{width}
 use Rattle.kept_changes.specs.Own.{IsRetexted, IsReattributed, IsNamedAnew}
@@ -46,6 +47,14 @@ pub record HasCome (c : Compiled) (ns : Nodes) (k : KeptState) (n : ℕ) : Type 
   pub was_element : is_element_at old parent ≡ true
   pub place : ℕ
   pub comes : ComesAt old ns parent place n
+
+-- a change of these nodes takes the element away
+abbrev pub IsTakenBy : Nodes → Change → ℕ → Type 0
+IsTakenBy ns change n = (m : ℕ) × IsSpot ns change (Pruned m) × IsWithin ns m n
+
+-- each element but these has the codes of its identity constraints that it had
+abbrev pub KeepsIdentityBut : (ℕ → Type 0) → KeptState → KeptState → Type 0
+KeepsIdentityBut those old new = (n : ℕ) → ¬ those n → (kept_at new.records.slots n).identity ≡ (kept_at old.records.slots n).identity
 
 -- what is another at the element, once the change is made; where it is gone, that is another matter
 abbrev pub HasChangedAt : Compiled → Nodes → KeptState → Spot → Type 0

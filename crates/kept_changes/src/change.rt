@@ -11,9 +11,12 @@ ghost use Rattle.doc_changes.specs.Held.{parent_at};
 ghost use Rattle.doc_changes.specs.Stands.{StandsFor};
 ghost use Rattle.doc_edits.specs.Changes.{CanMake, IsMade, changed};
 ghost use Rattle.kept_children.specs.from_kept_state.Kept.{IsBeside};
+ghost use Rattle.kept_children.specs.from_kept_below.Below.{KeepsIdentity};
+ghost use Rattle.kept_children.specs.from_kept_forgetting.Below.{IsWithin};
 ghost use Rattle.kept_children.specs.Edited.{IsRightFor};
 ghost use Rattle.kept_children.specs.Steps.{width};
-ghost use Rattle.kept_changes.specs.Spots.{HasChangedAt, HasCome, IsRemoval, IsSpot, TakesSpot};
+ghost use Rattle.kept_changes.specs.Spots.{HasChangedAt, HasCome, IsRemoval, IsSpot, IsTakenBy, KeepsIdentityBut, TakesSpot};
+ghost use Rattle.kept_changes.specs.Turned.{AreTurnedBy, Goes};
 ghost use Rattle.kept_changes.specs.Steps.{Takes, TakesBelow};
 
 use crate::own::{reattribute, rename, retext};
@@ -75,8 +78,8 @@ pub fn removal(doc: &DocTree, node: u32) -> Spot
     }
 }
 
-// Which element a change begins at.
-fn spot_of(doc: &DocTree, change: &Change) -> Spot
+/// Which element a change begins at.
+pub fn spot_of(doc: &DocTree, change: &Change) -> Spot
     requires { (t : NameTable) × (d : Document) × StandsFor t doc.now d × CanMake t doc.now d change.now }
     ensures { IsSpot doc.now change.now result }
 {
@@ -118,6 +121,8 @@ pub fn prune<L: Ledger>(
     requires below { parent_at doc.old node ≢ None }
     ensures tree { (t : NameTable) (d : Document) → StandsFor t doc.old d → StandsFor t doc.new (made d (edits.Remove node)) }
     ensures right { OnOk result (IsRightFor set.old doc.new kept.new) }
+    ensures turned { Goes set.old.names doc.old doc.new node }
+    ensures identity { OnOk result (KeepsIdentityBut (λ n. IsWithin doc.old node n) kept.old kept.new) }
     ensures same { set.new ≡ set.old }
     ensures least { steps.old ≤ steps.new }
     ensures steps { (parent : ℕ) → parent_at doc.old node ≡ Some parent → TakesBelow set.old doc.new kept.old parent (width doc.new parent + 1) steps.old steps.new }
@@ -144,6 +149,7 @@ fn plant<L: Ledger>(
     requires beside { IsBeside set.old doc.now kept.old }
     requires come { HasCome set.old doc.now kept.old node }
     ensures right { OnOk result (IsRightFor set.old doc.now kept.new) }
+    ensures identity { OnOk result (KeepsIdentity kept.old kept.new) }
     ensures same { set.new ≡ set.old }
     ensures least { steps.old ≤ steps.new }
     ensures steps { (parent : ℕ) → parent_at doc.now node ≡ Some parent → TakesBelow set.old doc.now kept.old parent (width doc.now parent) steps.old steps.new }
@@ -169,6 +175,7 @@ pub fn follow<L: Ledger>(
     requires beside { IsBeside set.old doc.now kept.old }
     requires changed { HasChangedAt set.old doc.now kept.old spot }
     ensures right { OnOk result (IsRightFor set.old doc.now kept.new) }
+    ensures identity { OnOk result (KeepsIdentity kept.old kept.new) }
     ensures same { set.new ≡ set.old }
     ensures least { steps.old ≤ steps.new }
     ensures steps { TakesSpot set.old doc.now kept.old spot steps.old steps.new }
@@ -199,6 +206,8 @@ pub fn keep_change<L: Ledger>(
     requires can { (d : Document) × StandsFor set.old.names doc.old d × CanMake set.old.names doc.old d change }
     ensures made { OnOk result ((d : Document) → StandsFor set.old.names doc.old d → StandsFor set.old.names doc.new (changed set.old.names d change)) }
     ensures right { OnOk result (IsRightFor set.old doc.new kept.new) }
+    ensures turned { OnOk result (AreTurnedBy set.old.names doc.old doc.new change) }
+    ensures identity { OnOk result (KeepsIdentityBut (IsTakenBy doc.old change) kept.old kept.new) }
     ensures same { set.new ≡ set.old }
     ensures least { steps.old ≤ steps.new }
     ensures reach { (d : Document) → StandsFor set.old.names doc.old d → ((doc.new ≡ doc.old) × (steps.new ≡ steps.old)) ⊎

@@ -7,6 +7,7 @@ ghost use Rattle.kept_children.specs.from_kept_records.Fit.{head_at};
 ghost use Rattle.kept_children.specs.from_kept_records.Slots.{pair_at};
 ghost use Rattle.kept_children.specs.from_kept_state.Kept.{IsBeside};
 ghost use Rattle.kept_children.specs.from_kept_judging.Judged.{again_pair, root_pair};
+ghost use Rattle.kept_children.specs.from_kept_below.Below.{KeepsIdentity};
 ghost use Rattle.kept_children.specs.Edited.{IsRightFor};
 ghost use Rattle.kept_changes.specs.Own.{IsRetexted, IsReattributed, IsNamedAnew};
 ghost use Rattle.kept_changes.specs.Steps.{TakesAt, TakesName};
@@ -33,6 +34,7 @@ pub(crate) fn retext(
     requires beside { IsBeside set.old doc.now kept.old }
     requires retexted { IsRetexted set.old doc.now kept.old node }
     ensures right { OnOk result (IsRightFor set.old doc.now kept.new) }
+    ensures identity { OnOk result (KeepsIdentity kept.old kept.new) }
     ensures same { set.new ≡ set.old }
 {
     let text = chars_of(kept.alloc, doc, node)?;
@@ -55,6 +57,7 @@ pub(crate) fn reattribute<L: Ledger>(
     requires beside { IsBeside set.old doc.now kept.old }
     requires reattributed { IsReattributed set.old doc.now kept.old node }
     ensures right { OnOk result (IsRightFor set.old doc.now kept.new) }
+    ensures identity { OnOk result (KeepsIdentity kept.old kept.new) }
     ensures same { set.new ≡ set.old }
     ensures least { steps.old ≤ steps.new }
     ensures steps { TakesAt set.old doc.now kept.old node (again_pair (set_of set.old) (pair_at kept.old.records.slots node) (head_at (set_of set.old) doc.now node)) steps.old steps.new }
@@ -78,6 +81,7 @@ pub(crate) fn rename<L: Ledger>(
     requires beside { IsBeside set.old doc.now kept.old }
     requires renamed { IsNamedAnew set.old doc.now kept.old node }
     ensures right { OnOk result (IsRightFor set.old doc.now kept.new) }
+    ensures identity { OnOk result (KeepsIdentity kept.old kept.new) }
     ensures same { set.new ≡ set.old }
     ensures least { steps.old ≤ steps.new }
     ensures steps { TakesName set.old doc.now kept.old node (parent_at doc.now node) steps.old steps.new }
@@ -98,6 +102,7 @@ fn rename_root<L: Ledger>(
     requires beside { IsBeside set.old doc.now kept.old }
     requires renamed { IsNamedAnew set.old doc.now kept.old 1 }
     ensures right { OnOk result (IsRightFor set.old doc.now kept.new) }
+    ensures identity { OnOk result (KeepsIdentity kept.old kept.new) }
     ensures same { set.new ≡ set.old }
     ensures least { steps.old ≤ steps.new }
     ensures steps { TakesAt set.old doc.now kept.old 1 (root_pair (set_of set.old) (head_at (set_of set.old) doc.now 1)) steps.old steps.new }

@@ -5,6 +5,7 @@ pub mod Pruned
 pub mod Renamed
 pub mod Midway
 pub mod Counted
+pub mod Climbed
 pub mod Ending
 pub mod Moves
 pub mod Siblings

@@ -25,6 +25,7 @@ use Rattle.child_lists.specs.declared.place.ChildPlace.{ChildPlace}
 use Rattle.child_lists.proofs.Edits.{get-within}
 use Rattle.child_lists.proofs.Terms.{many-symbols}
 use Rattle.child_lists.proofs.Written.{midway-written, listed-written, counts-written, given-written, pair-stays}
+use Rattle.kept_below.proofs.Identity.{identity-rewritten}
 use Rattle.kept_children.specs.Edited.{IsPruned}
 use Rattle.kept_children.specs.Steps.{digits, places_of, width}
 use Rattle.kept_children.proofs.Pruned.{others, pruned-children, pruned-counts, pruned-each, pruned-given, pruned-listed, pruned-made, pruned-midway, pruned-symbols}
@@ -84,6 +85,9 @@ module _ (c : Compiled) (ns : Nodes) (first : KeptState) (spot : ChildPlace) (ou
 
       pub taken-rest : (m : ℕ) → m ≢ p → at third.records.slots m ≡ at first.records.slots m
       taken-rest m other = rewrites.slots.others m other ∙ ap (λ (r : KeptView). at r.slots m) same
+
+      pub taken-identity : (m : ℕ) → (kept_at third.records.slots m).identity ≡ (kept_at first.records.slots m).identity
+      taken-identity m = identity-rewritten second third p k made.1 (record k { counts = left }) refl rewrites m ∙ ap (λ (r : KeptView). (kept_at r.slots m).identity) same
 
       pub taken-all : AreCounted third p (element_children ns p)
       taken-all =

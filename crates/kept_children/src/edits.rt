@@ -16,6 +16,7 @@ ghost use Rattle.kept_below.specs.Moved.{moved};
 ghost use Rattle.child_lists.specs.Places.{IsPlaceOf};
 ghost use Rattle.kept_children.specs.Edited.{IsPlanted, IsPruned, IsRenamed, IsRightFor, IsSettledAt};
 ghost use Rattle.child_lists.specs.Family.{AreCounted, AreGivenBut, IsAttributed, IsMidway};
+ghost use Rattle.kept_below.specs.Below.{KeepsIdentity};
 ghost use Rattle.kept_children.specs.Steps.{GovernsBelow, LeaveRoom, TakeAtMost, digits, marked_count, places_of, width};
 
 use crate::marked::{settle_all_marked, settle_at};
@@ -40,6 +41,7 @@ fn settle_parent(
     requires midway { IsMidway set.old doc.now kept.old parent was.now [] }
     requires children { AreChildren set.old doc.now kept.old parent (pair_at kept.old.records.slots parent) (children_at kept.old.records.slots parent) }
     ensures right { OnOk result (IsRightFor set.old doc.now kept.new) }
+    ensures identity { OnOk result (KeepsIdentity kept.old kept.new) }
     ensures same { set.new ≡ set.old }
 {
     let before = kept.outcome(parent);
@@ -87,6 +89,7 @@ fn settle_rest<L: Ledger>(
     requires counted { AreCounted kept.old own.0 (element_children doc.now own.0) }
     requires given { AreGivenBut set.old doc.now kept.old own.0 (places_of set.old doc.now kept.old own.0) }
     ensures right { OnOk result (IsRightFor set.old doc.now kept.new) }
+    ensures identity { OnOk result (KeepsIdentity kept.old kept.new) }
     ensures same { set.new ≡ set.old }
     ensures least { steps.old ≤ steps.new }
     ensures steps { (siblings : Forest) (governs : ℕ → Governing) → GovernsBelow set.old doc.now (pair_at kept.old.records.slots own.entry.0) own.entry.0 governs siblings →
@@ -114,6 +117,7 @@ fn settle_new<L: Ledger>(
     ensures counted { OnOk result (AreCounted kept.new at.now.parent (element_children doc.now at.now.parent)) }
     ensures given { OnOk result ((places : List ℕ) → AreGivenBut set.old doc.now kept.old at.now.parent (at.now.place ∷ places) → AreGivenBut set.old doc.now kept.new at.now.parent places) }
     ensures pair { OnOk result (pair_at kept.new.records.slots at.now.parent ≡ pair_at kept.old.records.slots at.now.parent) }
+    ensures identity { OnOk result (KeepsIdentity kept.old kept.new) }
     ensures same { set.new ≡ set.old }
     ensures least { steps.old ≤ steps.new }
     ensures steps { TakeAtMost set.old doc.now kept.old at.now steps.old steps.new }
@@ -139,6 +143,7 @@ fn settle_again_at<L: Ledger>(
     ensures settled { OnOk result (IsSettledAt set.old doc.now kept.old kept.new at.now) }
     ensures fit { OnOk result (FitBut set.old doc.now kept.new (at.now.parent ∷ [])) }
     ensures beside { OnOk result (IsBeside set.old doc.now kept.new) }
+    ensures identity { OnOk result (KeepsIdentity kept.old kept.new) }
     ensures same { set.new ≡ set.old }
     ensures least { steps.old ≤ steps.new }
     ensures steps { TakeAtMost set.old doc.now kept.old at.now steps.old steps.new }
@@ -165,6 +170,7 @@ fn settle_named<L: Ledger>(
     ensures counted { OnOk result (AreCounted kept.new at.now.parent (element_children doc.now at.now.parent)) }
     ensures given { OnOk result ((places : List ℕ) → AreGivenBut set.old doc.now kept.old at.now.parent (at.now.place ∷ places) → AreGivenBut set.old doc.now kept.new at.now.parent places) }
     ensures pair { OnOk result (pair_at kept.new.records.slots at.now.parent ≡ pair_at kept.old.records.slots at.now.parent) }
+    ensures identity { OnOk result (KeepsIdentity kept.old kept.new) }
     ensures same { set.new ≡ set.old }
     ensures least { steps.old ≤ steps.new }
     ensures steps { TakeAtMost set.old doc.now kept.old at.now steps.old steps.new }
@@ -195,6 +201,7 @@ pub fn put_child<L: Ledger>(
     requires beside { IsBeside set.old doc.now kept.old }
     requires planted { IsPlanted set.old doc.now kept.old at.now }
     ensures right { OnOk result (IsRightFor set.old doc.now kept.new) }
+    ensures identity { OnOk result (KeepsIdentity kept.old kept.new) }
     ensures same { set.new ≡ set.old }
     ensures least { steps.old ≤ steps.new }
     ensures steps { (siblings : Forest) (governs : ℕ → Governing) → GovernsBelow set.old doc.now (pair_at kept.old.records.slots at.now.parent) at.now.parent governs siblings →
@@ -224,6 +231,7 @@ pub fn take_child<L: Ledger>(
     requires beside { IsBeside set.old doc.now kept.old }
     requires pruned { IsPruned set.old doc.now kept.old taken.0.now taken.1 }
     ensures right { OnOk result (IsRightFor set.old doc.now kept.new) }
+    ensures identity { OnOk result (KeepsIdentity kept.old kept.new) }
     ensures same { set.new ≡ set.old }
     ensures least { steps.old ≤ steps.new }
     ensures steps { (siblings : Forest) (governs : ℕ → Governing) → GovernsBelow set.old doc.now (pair_at kept.old.records.slots taken.entry.0.now.parent) taken.entry.0.now.parent governs siblings →
@@ -254,6 +262,7 @@ pub fn name_child<L: Ledger>(
     requires beside { IsBeside set.old doc.now kept.old }
     requires renamed { IsRenamed set.old doc.now kept.old at.now }
     ensures right { OnOk result (IsRightFor set.old doc.now kept.new) }
+    ensures identity { OnOk result (KeepsIdentity kept.old kept.new) }
     ensures same { set.new ≡ set.old }
     ensures least { steps.old ≤ steps.new }
     ensures steps { (siblings : Forest) (governs : ℕ → Governing) → GovernsBelow set.old doc.now (pair_at kept.old.records.slots at.now.parent) at.now.parent governs siblings →

@@ -12,6 +12,7 @@ ghost use Rattle.child_lists.specs.Places.{IsPlaceOf};
 ghost use Rattle.child_lists.specs.Family.{AreCounted, AreGivenBut, IsAttributed, IsListedBy, IsMidway};
 ghost use Rattle.child_lists.specs.Family as family;
 ghost use Rattle.kept_children.specs.Edited.{IsSettledAt};
+ghost use Rattle.kept_below.specs.Below.{KeepsIdentity};
 ghost use Rattle.kept_children.specs.Steps.{GovernsBelow, LeaveRoom, TakeAtMost, digits, marked_count, places_of, width};
 
 use child_lists::{ChildPlace, govern_at, list_of};
@@ -41,6 +42,7 @@ pub(crate) fn settle_at<L: Ledger>(
     ensures settled { OnOk result (IsSettledAt set.old doc.now kept.old kept.new at.now) }
     ensures fit { OnOk result (FitBut set.old doc.now kept.new (at.now.parent ∷ [])) }
     ensures beside { OnOk result (IsBeside set.old doc.now kept.new) }
+    ensures identity { OnOk result (KeepsIdentity kept.old kept.new) }
     ensures same { set.new ≡ set.old }
     ensures least { steps.old ≤ steps.new }
     ensures steps { TakeAtMost set.old doc.now kept.old at.now steps.old steps.new }
@@ -67,6 +69,7 @@ fn settle_marked<L: Ledger>(
     ensures counted { OnOk result (AreCounted kept.new at.now.parent (element_children doc.now at.now.parent)) }
     ensures given { OnOk result ((places : List ℕ) → AreGivenBut set.old doc.now kept.old at.now.parent (at.now.place ∷ places) → AreGivenBut set.old doc.now kept.new at.now.parent places) }
     ensures pair { OnOk result (pair_at kept.new.records.slots at.now.parent ≡ pair_at kept.old.records.slots at.now.parent) }
+    ensures identity { OnOk result (KeepsIdentity kept.old kept.new) }
     ensures same { set.new ≡ set.old }
     ensures least { steps.old ≤ steps.new }
     ensures steps { TakeAtMost set.old doc.now kept.old at.now steps.old steps.new }
@@ -126,6 +129,7 @@ pub(crate) fn settle_all_marked<L: Ledger>(
     ensures attributed { OnOk result (IsAttributed set.old doc.now kept.new parent) }
     ensures counted { OnOk result (AreCounted kept.new parent (element_children doc.now parent)) }
     ensures given { OnOk result (AreGivenBut set.old doc.now kept.new parent []) }
+    ensures identity { OnOk result (KeepsIdentity kept.old kept.new) }
     ensures same { set.new ≡ set.old }
     ensures least { steps.old ≤ steps.new }
     ensures steps { (siblings : Forest) (governs : ℕ → Governing) → GovernsBelow set.old doc.now (pair_at kept.old.records.slots parent) parent governs siblings →

@@ -21,6 +21,8 @@ use Rattle.doc_inverses.specs.declared.part.PartRow.{PartRow}
 use Rattle.doc_inverses.proofs.Meaning.{puts_back, takes, names, writes, rewords}
 use Rattle.doc_inverses.proofs.Own.{element_kind, text_kind}
 use Rattle.doc_inverses.proofs.Seated.{is_at}
+use Rattle.kept_changes.specs.Turned.{TurnsAt}
+use Rattle.kept_changes.proofs.Turned.{turned-at}
 use Rattle.kept_changes.specs.from_kept_state.KeptState.{KeptState}
 use Rattle.kept_changes.specs.from_kept_children.Edited.{IsRightFor}
 use Rattle.kept_changes.specs.from_kept_children.Steps.{width}
@@ -33,7 +35,7 @@ use Rattle.kept_changes.proofs.Changed.{element-reattributed}
 use Rattle.kept_changes.proofs.Following.{changed-at, takes-change}
 use Rattle.kept_inverses.specs.Spots.{IsSpotOf, IsReturn, returns_at}
 use Rattle.kept_inverses.specs.Steps.{TakesInverse}
-use Rattle.kept_inverses.proofs.Returned.{put-at, put-takes, some-row}
+use Rattle.kept_inverses.proofs.Returned.{put-at, put-takes, put-turned, some-row}
 
 -- ---- what can be changed
 
@@ -81,6 +83,21 @@ module _ (s : Compiled) (old new : Nodes) (k : KeptState) (r : IsRightFor s old 
       subst (HasChangedAt s new k) (sym is) (written key n place value (holds_element old key (write-kind s.names old d z c key n place value m fits)) made)
   inverse-at (changes.Chars key chars) spot is here m fits made =
       changed-at s old new k r d z sound (edits.SetText key chars) spot is here (reword-kind s.names old d z c key chars m fits) made
+
+  pub inverse-turned : (change : Change) (spot : Spot) → IsSpotOf old change spot → ((n : ℕ) → spot ≡ Pruned n → ⊥) → Means s.names change c → law.Fits d c → IsMade s.names old new change c → TurnsAt s.names old new spot
+  inverse-turned (changes.PutBack p place part) spot is here m fits made =
+      let q = puts_back s.names d c p place part m fits in
+      put-turned s old new k r d z sound p place part q.f q.part_is q.can (subst (IsMade s.names old new (changes.PutBack p place part)) q.is made) spot is
+  inverse-turned (changes.Take key) spot is here m fits made =
+      turned-at s.names old new d z sound (edits.Remove key) spot is here (take-below s.names old d z key (take-fits s.names old d z c key m fits)) made
+  inverse-turned (changes.Name key n) spot is here m fits made =
+      turned-at s.names old new d z sound (edits.Rename key n) spot is here (name-kind s.names old d z c key n m fits, (names s.names c key n m).0) made
+  inverse-turned (changes.Attr key n place value) spot is here m fits made =
+      let h = holds_element old key (write-kind s.names old d z c key n place value m fits) in
+      let now = record h.e { attributes = written_number n place value h.e.attributes } in
+      subst (TurnsAt s.names old new) (sym is) (ap is_element_by h.is ∙ ap is_element h.holds, element-reattributed s.names old new d z key h.it h.is (contents.Element now) (made h.it h.e h.is h.holds) h.e now refl h.holds refl refl)
+  inverse-turned (changes.Chars key chars) spot is here m fits made =
+      turned-at s.names old new d z sound (edits.SetText key chars) spot is here (reword-kind s.names old d z c key chars m fits) made
 
   -- ---- the steps
 

@@ -16,6 +16,9 @@ use Rattle.tree_inverses.specs.Sites.{first_number}
 use Rattle.tree_inverses.proofs.Twice.{absent, own_one}
 use Rattle.doc_inverses.specs.Parts.{IsPart, Grafts}
 use Rattle.doc_inverses.specs.declared.part.PartRow.{PartRow}
+use Rattle.kept_changes.specs.Own.{Retexts}
+use Rattle.kept_changes.specs.Turned.{TurnsAt}
+use Rattle.kept_changes.proofs.Turned.{comes-there}
 use Rattle.kept_changes.specs.from_kept_state.KeptState.{KeptState}
 use Rattle.kept_changes.specs.from_kept_children.Edited.{IsRightFor, ComesAt}
 use Rattle.kept_changes.specs.Spots.{HasChangedAt, TakesSpot}
@@ -65,17 +68,15 @@ module _ (c : Compiled) (old new : Nodes) (k : KeptState) (r : IsRightFor c old 
     not-among : (m : ℕ) → m ≢ n → has m (text n chars next) ≡ false
     not-among m other = ap (λ (b : Bool). b || has m next) (ne_eqb n m (λ e. other (sym e))) ∙ ap (has m) can.one
 
-    pub text-returned : HasChangedAt c new k (Retexted p)
-    text-returned =
-        let above = parent-node c.names old new d z p place (text n chars next) can grafts in record {
-          old = old;
-          right = r;
-          element = parent-is c.names old new d z p place (text n chars next) can grafts;
-          retexts =
-              text-came c.names old new d z p place above.0 above.1 n (grafts-come c.names old new d z p place (text n chars next) can grafts) (ap is_element_by (free))
+    texts-returned : Retexts old new p
+    texts-returned =
+        let above = parent-node c.names old new d z p place (text n chars next) can grafts in
+        text-came c.names old new d z p place above.0 above.1 n (grafts-come c.names old new d z p place (text n chars next) can grafts) (ap is_element_by (free))
               (ap is_element_by grafts.stand.0.is ∙ ap is_element grafts.stand.0.content)
-              (λ m other gone. ap is_element_by (grafts.others m (not-among m other) (λ e. none-some above.0 (sym gone ∙ ap (node old) e ∙ above.1)) ∙ gone));
-        }
+              (λ m other gone. ap is_element_by (grafts.others m (not-among m other) (λ e. none-some above.0 (sym gone ∙ ap (node old) e ∙ above.1)) ∙ gone))
+
+    pub text-returned : HasChangedAt c new k (Retexted p)
+    text-returned = record { old = old; right = r; element = parent-is c.names old new d z p place (text n chars next) can grafts; retexts = texts-returned }
 
   -- ---- it is an element
 
@@ -87,6 +88,15 @@ module _ (c : Compiled) (old new : Nodes) (k : KeptState) (r : IsRightFor c old 
       let f = element n name bindings attributes children next in
       subst (HasChangedAt c new k) (sym (subst (λ (rows : List PartRow). IsReturn rows p spot) is.3 here))
       (came c old new k r d z sound p place n can.element (ap is_element_by grafts.stand.0.is ∙ ap is_element grafts.stand.0.content) (grafts-come c.names old new d z p place f can grafts))
+
+  pub put-turned : (part : List PartRow) (f : Forest) → IsPart c.names part f → CanPutBack d p place f → Grafts c.names old new p place f → (spot : Spot) → IsReturn part p spot → TurnsAt c.names old new spot
+  put-turned part none is can grafts spot here = absurd can.one
+  put-turned part (text n chars next) is can grafts spot here =
+      subst (TurnsAt c.names old new) (sym (subst (λ (rows : List PartRow). IsReturn rows p spot) is.1 here)) (parent-is c.names old new d z p place (text n chars next) can grafts, texts-returned n chars next can grafts)
+  put-turned part (element n name bindings attributes children next) is can grafts spot here =
+      let f = element n name bindings attributes children next in
+      subst (TurnsAt c.names old new) (sym (subst (λ (rows : List PartRow). IsReturn rows p spot) is.3 here))
+      (comes-there c.names old new d z sound p place n can.element (ap is_element_by grafts.stand.0.is ∙ ap is_element grafts.stand.0.content) (grafts-come c.names old new d z p place f can grafts))
 
   -- ---- the steps
 

@@ -9,7 +9,10 @@ ghost use Rattle.doc_changes.specs.Held.{parent_at};
 ghost use Rattle.doc_changes.specs.Stands.{StandsFor};
 ghost use Rattle.doc_inverses.specs.Changes.{Means};
 ghost use Rattle.kept_changes.specs.from_kept_children.Edited.{IsRightFor};
-ghost use Rattle.kept_inverses.specs.Spots.{IsSpotOf, IsReturn};
+ghost use Rattle.kept_inverses.specs.Spots.{AreTurnedOver, IsSpotOf, IsReturn, IsTakenOut};
+ghost use Rattle.kept_changes.specs.Turned.{Goes};
+ghost use Rattle.kept_changes.specs.from_kept_forgetting.Below.{IsWithin};
+ghost use Rattle.kept_changes.specs.Spots.{KeepsIdentityBut};
 ghost use Rattle.kept_inverses.specs.Steps.{TakesInverse};
 ghost use Rattle.kept_changes.specs.Steps.{TakesBelow};
 ghost use Rattle.kept_changes.specs.from_kept_children.Steps.{width};
@@ -35,8 +38,8 @@ fn returned(part: &Part, parent: u32) -> Spot
     }
 }
 
-// Which element a change begins at.
-fn spot_of(doc: &DocTree, change: &Change) -> Spot
+/// Which element a change begins at.
+pub fn spot_of(doc: &DocTree, change: &Change) -> Spot
     requires { (t : NameTable) × (d : Document) × (c : law.Change) × StandsFor t doc.now d × Means t change.now c × law.Fits d c }
     ensures { IsSpotOf doc.now change.now result }
 {
@@ -63,6 +66,8 @@ fn take<L: Ledger>(
     ensures inverse { IfOk result (λ back. (d : Document) → StandsFor set.old.names doc.old d → law.Fits d (law.take_out node) → Means set.old.names back (law.inverse_of d (law.take_out node))) }
     ensures made { OnOk result ((d : Document) → StandsFor set.old.names doc.old d → StandsFor set.old.names doc.new (law.changed d (law.take_out node))) }
     ensures right { OnOk result (IsRightFor set.old doc.new kept.new) }
+    ensures turned { OnOk result (Goes set.old.names doc.old doc.new node) }
+    ensures identity { OnOk result (KeepsIdentityBut (λ n. IsWithin doc.old node n) kept.old kept.new) }
     ensures same { set.new ≡ set.old }
     ensures least { steps.old ≤ steps.new }
     ensures reach { ((doc.new ≡ doc.old) × (steps.new ≡ steps.old)) ⊎
@@ -94,6 +99,8 @@ pub fn keep_inverse<L: Ledger>(
     ensures made { OnOk result ((d : Document) (c : law.Change) → StandsFor set.old.names doc.old d → Means set.old.names change c → law.Fits d c
         → StandsFor set.old.names doc.new (law.changed d c)) }
     ensures right { OnOk result (IsRightFor set.old doc.new kept.new) }
+    ensures turned { OnOk result (AreTurnedOver set.old.names doc.old doc.new change) }
+    ensures identity { OnOk result (KeepsIdentityBut (IsTakenOut doc.old change) kept.old kept.new) }
     ensures same { set.new ≡ set.old }
     ensures least { steps.old ≤ steps.new }
     ensures reach { (d : Document) (c : law.Change) → StandsFor set.old.names doc.old d → Means set.old.names change c → law.Fits d c

@@ -3,6 +3,6 @@
 
 mod change;
 
-pub use change::keep_inverse;
+pub use change::{keep_inverse, spot_of};
 pub use kept_changes::kept_state;
 pub use kept_changes;

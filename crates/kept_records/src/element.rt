@@ -6,7 +6,7 @@ use tree_assess::ElementEntry;
 use xs_names::Text;
 
 /// What is kept of an element.
-#[derive(Debug, Drop)]
+#[derive(Drop)]
 pub struct KeptElement {
     /// What governs it, its record and those of its attributes, with their values. How many entries are below is not kept, and 0.
     pub found: ElementEntry,

@@ -7,7 +7,7 @@ use assess_records::ChildCounts;
 use model_lists::ModelList;
 
 /// What is kept of an element's child elements.
-#[derive(Clone, Copy, Debug, PartialEq, Eq)]
+#[derive(Clone, Copy)]
 pub struct KeptChildren {
     /// The place from 0 where they get stuck in the content model (Structures 3.4.4).
     pub stuck: Option<u32>,

@@ -10,7 +10,7 @@ use Rattle.identity_carry.specs.Tables.{KeyTuple, for_key, same_key_tuple, is_in
 use Rattle.identity_carry.proofs.EntryLaws.{decides, own_more, said_kept}
 use Rattle.key_records.specs.Faults.{weight}
 use Rattle.key_records.specs.References.{AreReferences, key_of, keyrefs_of, is_referred}
-use Rattle.key_records.specs.Records.{own_in, own_of, is_shown, unmatched, IsMatched, AreOnce, AreMatched, IsRematched, IsOneMoreTarget, IsChangedAt}
+use Rattle.key_records.specs.Records.{own_in, own_of, is_shown, unmatched, IsMatched, AreBare, AreOnce, AreMatched, IsRematched, IsOneMoreTarget, IsChangedAt}
 use Rattle.key_records.specs.declared.references.References.{References}
 use Rattle.key_records.specs.declared.records.KeyRecords.{KeyRecords}
 use Rattle.key_records.proofs.EntryLaws.{spot-of, at-spot, own-same, matched-alike}
@@ -62,6 +62,19 @@ module _ (refs : References) (old new : KeyRecords) (scope k : ℕ) (tuple : Lis
           (it-apart (is_referred refs) scope k tuple n j other false here (λ fails. not-both (is_referred refs j) e fails))
       by false e = own_more old.others new.others scope k tuple grown n (for_key j other)
 
+-- and what no keyref refers to still has none among these
+module _ (refs : References) (old new : KeyRecords) (scope k : ℕ) (tuple : List Key) (here : is_referred refs k ≡ true) where
+  not-it : (n j : ℕ) (other : List Key) → is_referred refs j ≡ false → weight (is_it scope k tuple n j other) ≡ 0
+  not-it n j other e = it-apart (is_referred refs) scope k tuple n j other true here (λ holds. not-both (is_referred refs j) holds e)
+
+  bare-more : IsOneMoreOwn old.referred new.referred scope k tuple → AreBare refs old → AreBare refs new
+  bare-more grown bare n j other e =
+      with-none (own_count new.referred n (2 * j) other) (own_count old.referred n (2 * j) other) (weight (is_it scope k tuple n j other)) (grown n (for_key j other)) (not-it n j other e) ∙ bare n j other e
+
+  bare-less : IsOneMoreOwn new.referred old.referred scope k tuple → AreBare refs old → AreBare refs new
+  bare-less grown bare n j other e =
+      sym (with-none (own_count old.referred n (2 * j) other) (own_count new.referred n (2 * j) other) (weight (is_it scope k tuple n j other)) (grown n (for_key j other)) (not-it n j other e)) ∙ bare n j other e
+
 -- elsewhere the own ones are as they were
 pub own-elsewhere : (refs : References) (fewer more : KeyRecords) (scope k : ℕ) (tuple : List Key) → IsOneMoreTarget refs fewer more scope k tuple
     → (n j : ℕ) (other : List Key) → (scope ≡ n → for_key k tuple ≡ for_key j other → ⊥) → own_of refs more n j other ≡ own_of refs fewer n j other
@@ -80,6 +93,7 @@ module _ (refs : References) (old : KeyRecords) (others : Tables) (scope k : ℕ
     faults_are = refl;
     once = λ n j other. subst (λ (c : ℕ). c ≤ 1) (sym (entered n j other)) (once n j other);
     still = λ n j other off h. matched-alike refs old other_new n j other (entered n j other) (own n j other off) (λ key is. refl) h;
+    bare = λ h. h;
   }
 
   pub other-added : (made : List Key) → made ≡ tuple → is_referred refs k ≡ false → IsOneMoreTuple old.others others scope (2 * k) made → IsOneMoreTarget refs old other_new scope k tuple
@@ -120,8 +134,9 @@ module _ (refs : References) (sound : AreReferences refs) (old middle new : KeyR
     (alike : (m : ℕ) (y : KeyTuple) → (Has m told → for_key k tuple ≡ y → ⊥) → is_in_table middle.referred m y ≡ is_in_table old.referred m y)
     (again : IsRematched refs middle new) (right : (n keyref : ℕ) → Has n told → Has keyref (keyrefs_of refs k) → IsMatched refs new n keyref tuple) where
   -- by the own ones elsewhere
-  pub referred-changed : ((n j : ℕ) (other : List Key) → (scope ≡ n → for_key k tuple ≡ for_key j other → ⊥) → own_of refs middle n j other ≡ own_of refs old n j other) → IsChangedAt refs old new scope k tuple
-  referred-changed own = record {
+  pub referred-changed : ((n j : ℕ) (other : List Key) → (scope ≡ n → for_key k tuple ≡ for_key j other → ⊥) → own_of refs middle n j other ≡ own_of refs old n j other) → (AreBare refs old → AreBare refs middle)
+      → IsChangedAt refs old new scope k tuple
+  referred-changed own bare = record {
     faults_are = again.faults_are ∙ faults_are;
     once = again.once;
     still = λ n j other off h key is.
@@ -132,6 +147,7 @@ module _ (refs : References) (sound : AreReferences refs) (old middle new : KeyR
           ]
           | inr differ ↦ elsewhere n j other off h key is (λ t x. differ x)
         ];
+    bare = λ h n j other e. ap (λ (t : Tables). own_count t n (2 * j) other) again.referred_is ∙ bare h n j other e;
   }
     where
       same-tuple : (n j : ℕ) (other : List Key) (key : ℕ) → key_of refs j ≡ Some key → for_key k tuple ≡ for_key key other → Has n told → IsMatched refs new n j other
@@ -157,6 +173,7 @@ module _ (refs : References) (sound : AreReferences refs) (old middle new : KeyR
 
     pub referred-added-changed : IsOneMoreOwn old.referred middle.referred scope k tuple → IsChangedAt refs old new scope k tuple
     referred-added-changed grown = referred-changed (own-elsewhere refs old middle scope k tuple (referred-more refs old middle scope k tuple here grown same-others))
+        (bare-more refs old middle scope k tuple here grown)
 
     pub referred-dropped : IsOneMoreOwn middle.referred old.referred scope k tuple → IsOneMoreTarget refs new old scope k tuple
     referred-dropped grown =
@@ -166,6 +183,7 @@ module _ (refs : References) (sound : AreReferences refs) (old middle new : KeyR
     pub referred-dropped-changed : IsOneMoreOwn middle.referred old.referred scope k tuple → IsChangedAt refs old new scope k tuple
     referred-dropped-changed grown =
         referred-changed (λ n j other off. sym (own-elsewhere refs middle old scope k tuple (referred-more refs middle old scope k tuple here grown (λ m i o. sym (same-others m i o))) n j other off))
+        (bare-less refs old middle scope k tuple here grown)
 
   pub referred-settled : (t : Links) → AreSettled t middle.referred → AreSettled t new.referred
   referred-settled t s = subst (AreSettled t) (sym again.referred_is) s
@@ -191,6 +209,9 @@ module _ (refs : References) (old middle new : KeyRecords) (scope k : ℕ) (tupl
 
   pub rest-is : AreOnce new × (new.faults ≡ old.faults)
   rest-is = (again.once, again.faults_are ∙ first.faults_are)
+
+  pub bare-again : AreBare refs old → AreBare refs new
+  bare-again h n j other e = ap (λ (t : Tables). own_count t n (2 * j) other) again.referred_is ∙ first.bare h n j other e
 
   pub settled-again : (t : Links) → AreSettled t middle.referred → AreSettled t new.referred
   settled-again t s = subst (AreSettled t) (sym again.referred_is) s

@@ -15,7 +15,7 @@ use Rattle.identity_carry.proofs.EntryLaws.{decides}
 use Rattle.key_records.specs.Counted.{Counted, plus, one_target, no_targets, own_tuples, with_keys, with_misuse, without_keys, with_nillable}
 use Rattle.key_records.specs.Faults.{AreMoreFaults, faults_at, no_faults, weight}
 use Rattle.key_records.specs.References.{AreReferences, key_of, keyrefs_of, is_referred, has_any}
-use Rattle.key_records.specs.Records.{own_in, own_of, is_shown, unmatched, AreOnce, AreMatched, AreRecords, IsOneMoreTarget}
+use Rattle.key_records.specs.Records.{own_in, own_of, is_shown, unmatched, AreBare, AreOnce, AreMatched, AreRecords, IsOneMoreTarget}
 use Rattle.key_records.specs.declared.faults.Faults.{Faults}
 use Rattle.key_records.specs.declared.faults.TargetFaults.{TargetFaults}
 use Rattle.key_records.specs.declared.faults.FaultCounts.{FaultCounts}
@@ -101,6 +101,7 @@ module _ (t : Links) (refs : References) (c : Counted) (old : KeyRecords) (fault
     settled = r.settled;
     matched = r.matched;
     once = r.once;
+    bare = r.bare;
     misused_are = λ n j. misused-more old.faults faults scope k (found None) grown n j ∙ ap (λ (a : ℕ). a + has_fault scope k misused n j) (r.misused_are n j);
     lacking_are = λ n j. lacking-more old.faults faults scope k (found None) grown n j ∙ ap (λ (a : ℕ). a + has_fault scope k true n j) (r.lacking_are n j);
     nillable_are = λ n j. nillable-more old.faults faults scope k (found None) grown n j ∙ ap (λ (a : ℕ). a + has_fault scope k nillable n j) (r.nillable_are n j);
@@ -112,6 +113,7 @@ module _ (t : Links) (refs : References) (c : Counted) (old : KeyRecords) (fault
     settled = r.settled;
     matched = r.matched;
     once = r.once;
+    bare = r.bare;
     misused_are = λ n j. less (faults_at faults n j).misused (c n j with_misuse) (has_fault scope k misused n j) (sym (misused-more faults old.faults scope k (found None) grown n j) ∙ r.misused_are n j);
     lacking_are = λ n j. less (faults_at faults n j).lacking (c n j without_keys) (has_fault scope k true n j) (sym (lacking-more faults old.faults scope k (found None) grown n j) ∙ r.lacking_are n j);
     nillable_are = λ n j. less (faults_at faults n j).nillable (c n j with_nillable) (has_fault scope k nillable n j) (sym (nillable-more faults old.faults scope k (found None) grown n j) ∙ r.nillable_are n j);
@@ -120,8 +122,8 @@ module _ (t : Links) (refs : References) (c : Counted) (old : KeyRecords) (fault
 -- with one
 module _ (t : Links) (refs : References) (c : Counted) (old middle new : KeyRecords) (scope k : ℕ) (tuple : List Key) (misused nillable : Bool) (faults_are : new.faults ≡ middle.faults) where
   pub put-target : AreMoreFaults old.faults middle.faults scope k (record { misused = misused; lacking = false; nillable = nillable }) → AreRecords t refs c old → IsOneMoreTarget refs old new scope k tuple
-      → AreSettled t new.referred → AreMatched refs new → AreOnce new → AreRecords t refs (plus c (one_target scope k (Some tuple) misused nillable)) new
-  put-target grown r own settled matched once =
+      → AreSettled t new.referred → AreMatched refs new → AreOnce new → AreBare refs new → AreRecords t refs (plus c (one_target scope k (Some tuple) misused nillable)) new
+  put-target grown r own settled matched once bare =
       let here = subst (λ (x : FaultCounts). AreMoreFaults old.faults x scope k (record { misused = misused; lacking = false; nillable = nillable })) (sym faults_are) grown in
       let all : TargetFaults = record { misused = misused; lacking = false; nillable = nillable } in
       record {
@@ -129,14 +131,15 @@ module _ (t : Links) (refs : References) (c : Counted) (old middle new : KeyReco
         settled = settled;
         matched = matched;
         once = once;
+        bare = bare;
         misused_are = λ n j. misused-more old.faults new.faults scope k all here n j ∙ ap (λ (a : ℕ). a + has_fault scope k misused n j) (r.misused_are n j);
         lacking_are = λ n j. lacking-more old.faults new.faults scope k all here n j ∙ ap (λ (a : ℕ). a + has_fault scope k false n j) (r.lacking_are n j);
         nillable_are = λ n j. nillable-more old.faults new.faults scope k all here n j ∙ ap (λ (a : ℕ). a + has_fault scope k nillable n j) (r.nillable_are n j);
       }
 
   pub take-target : AreMoreFaults middle.faults old.faults scope k (record { misused = misused; lacking = false; nillable = nillable }) → AreRecords t refs (plus c (one_target scope k (Some tuple) misused nillable)) old
-      → IsOneMoreTarget refs new old scope k tuple → AreSettled t new.referred → AreMatched refs new → AreOnce new → AreRecords t refs c new
-  take-target grown r own settled matched once =
+      → IsOneMoreTarget refs new old scope k tuple → AreSettled t new.referred → AreMatched refs new → AreOnce new → AreBare refs new → AreRecords t refs c new
+  take-target grown r own settled matched once bare =
       let here = subst (λ (x : FaultCounts). AreMoreFaults x old.faults scope k (record { misused = misused; lacking = false; nillable = nillable })) (sym faults_are) grown in
       let all : TargetFaults = record { misused = misused; lacking = false; nillable = nillable } in
       record {
@@ -144,6 +147,7 @@ module _ (t : Links) (refs : References) (c : Counted) (old middle new : KeyReco
         settled = settled;
         matched = matched;
         once = once;
+        bare = bare;
         misused_are = λ n j. less (faults_at new.faults n j).misused (c n j with_misuse) (has_fault scope k misused n j) (sym (misused-more new.faults old.faults scope k all here n j) ∙ r.misused_are n j);
         lacking_are = λ n j. less (faults_at new.faults n j).lacking (c n j without_keys) (has_fault scope k false n j) (sym (lacking-more new.faults old.faults scope k all here n j) ∙ r.lacking_are n j);
         nillable_are = λ n j. less (faults_at new.faults n j).nillable (c n j with_nillable) (has_fault scope k nillable n j) (sym (nillable-more new.faults old.faults scope k all here n j) ∙ r.nillable_are n j);
@@ -266,6 +270,7 @@ records-of-none t refs r one two none_there = record {
   matched = λ n k tuple key is.
       empty two n (2 * k + 1) tuple ∙ sym (ap (λ (m : ℕ). weight (nat_lt 0 m && not (is_shown r n key tuple))) (none-own (is_referred refs k) r n k tuple (empty one n (2 * k) tuple) (empty two n (2 * k) tuple)));
   once = λ n k tuple. subst (λ (m : ℕ). m ≤ 1) (sym (empty two n (2 * k + 1) tuple)) (omega arith);
+  bare = λ n k tuple e. empty one n (2 * k) tuple;
   misused_are = λ n k. ap (λ (f : Faults). f.misused) (none_there n k);
   lacking_are = λ n k. ap (λ (f : Faults). f.lacking) (none_there n k);
   nillable_are = λ n k. ap (λ (f : Faults). f.nillable) (none_there n k);

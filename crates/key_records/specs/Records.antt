@@ -36,6 +36,10 @@ abbrev pub IsMatched : References → KeyRecords → ℕ → ℕ → List Key �
 IsMatched refs r n keyref tuple =
     (key : ℕ) → key_of refs keyref ≡ Some key → unmatched r n keyref tuple ≡ weight (nat_lt 0 (own_of refs r n keyref tuple) && not (is_shown r n key tuple))
 
+-- a constraint to which no keyref refers has no own key-sequence among those of constraints that are referred to
+abbrev pub AreBare : References → KeyRecords → Type 0
+AreBare refs r = (n k : ℕ) (tuple : List Key) → is_referred refs k ≡ false → own_count r.referred n (2 * k) tuple ≡ 0
+
 -- no key-sequence is entered twice
 abbrev pub AreOnce : KeyRecords → Type 0
 AreOnce r = (n k : ℕ) (tuple : List Key) → unmatched r n k tuple ≤ 1
@@ -59,6 +63,7 @@ pub record IsChangedAt (refs : References) (old new : KeyRecords) (scope constra
   pub faults_are : new.faults ≡ old.faults
   pub once : AreOnce new
   pub still : (n k : ℕ) (other : List Key) → (scope ≡ n → for_key constraint tuple ≡ for_key k other → ⊥) → IsMatched refs old n k other → IsMatched refs new n k other
+  pub bare : AreBare refs old → AreBare refs new
 
 abbrev pub AreMatched : References → KeyRecords → Type 0
 AreMatched refs r = (n k : ℕ) (tuple : List Key) → IsMatched refs r n k tuple
@@ -70,6 +75,7 @@ pub record AreRecords (t : Links) (refs : References) (c : Counted) (r : KeyReco
   pub settled : AreSettled t r.referred
   pub matched : AreMatched refs r
   pub once : AreOnce r
+  pub bare : AreBare refs r
   pub misused_are : (n k : ℕ) → (faults_at r.faults n k).misused ≡ c n k with_misuse
   pub lacking_are : (n k : ℕ) → (faults_at r.faults n k).lacking ≡ c n k without_keys
   pub nillable_are : (n k : ℕ) → (faults_at r.faults n k).nillable ≡ c n k with_nillable

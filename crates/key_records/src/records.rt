@@ -6,7 +6,7 @@ ghost use Rattle.identity_counts.specs.Counting.{Has, Links, IsLinked};
 ghost use Rattle.identity_carry.specs.Tables.{AreParents, AreSettled};
 ghost use Rattle.key_records.specs.Counted.{no_targets};
 ghost use Rattle.key_records.specs.References.{AreReferences};
-ghost use Rattle.key_records.specs.Records.{AreMatched, AreOnce, AreRecords, IsChangedAt, IsMatched, IsOneMoreTarget, IsRematched, own_in, own_of, unmatched};
+ghost use Rattle.key_records.specs.Records.{AreBare, AreMatched, AreOnce, AreRecords, IsChangedAt, IsMatched, IsOneMoreTarget, IsRematched, own_in, own_of, unmatched};
 ghost use Rattle.key_records.specs.declared.references.References.{References as TheReferences};
 
 use crate::References;
@@ -238,6 +238,7 @@ impl KeyRecords {
         ensures own { OnOk result (IsOneMoreTarget tree.now.references.now self.old self.new scope constraint tuple.now) }
         ensures matched { OnOk result (AreMatched tree.now.references.now self.old → AreMatched tree.now.references.now self.new) }
         ensures rest { OnOk result (AreOnce self.new × (self.new.faults ≡ self.old.faults)) }
+        ensures bare { OnOk result (AreBare tree.now.references.now self.old → AreBare tree.now.references.now self.new) }
     {
         self.add_own(tree, scope, constraint, tuple)?;
         self.rematch(tree.references, scope, constraint, tuple)?;
@@ -261,6 +262,7 @@ impl KeyRecords {
         ensures own { OnOk result (IsOneMoreTarget tree.now.references.now self.new self.old scope constraint tuple.now) }
         ensures matched { OnOk result (AreMatched tree.now.references.now self.old → AreMatched tree.now.references.now self.new) }
         ensures rest { OnOk result (AreOnce self.new × (self.new.faults ≡ self.old.faults)) }
+        ensures bare { OnOk result (AreBare tree.now.references.now self.old → AreBare tree.now.references.now self.new) }
     {
         self.drop_own(tree, scope, constraint, tuple)?;
         self.rematch(tree.references, scope, constraint, tuple)?;

@@ -9,7 +9,7 @@ ghost use Rattle.leaf_trees.specs.Side.{below};
 use crate::side::Side;
 
 /// What stands above a node.
-#[derive(Clone, Copy, Debug, PartialEq, Eq)]
+#[derive(Clone, Copy)]
 pub enum Above {
     /// A fork, by its slot.
     Fork(u32),
@@ -20,14 +20,14 @@ pub enum Above {
 }
 
 /// What a leaf counts as.
-#[derive(Clone, Copy, Debug, PartialEq, Eq)]
+#[derive(Clone, Copy)]
 pub struct Flags {
     pub element: bool,
     pub marked: bool,
 }
 
 /// How many leaves are below a node, how many of them are elements, and how many are marked.
-#[derive(Clone, Copy, Debug, PartialEq, Eq)]
+#[derive(Clone, Copy)]
 pub struct Counts {
     pub leaves: u32,
     pub elements: u32,
@@ -35,7 +35,7 @@ pub struct Counts {
 }
 
 /// A slot of the arena: a leaf, which has height 0, or a fork of two sides.
-#[derive(Clone, Copy, Debug, PartialEq, Eq)]
+#[derive(Clone, Copy)]
 pub struct Node {
     pub above: Above,
     pub left: u32,

@@ -14,7 +14,7 @@ use std::alloc::{AllocError, Global};
 use std::marker::Model;
 
 /// Where an item lies.
-#[derive(Clone, Copy, Debug, PartialEq, Eq)]
+#[derive(Clone, Copy)]
 pub struct Spot {
     /// The number of its list.
     pub list: u32,
@@ -22,7 +22,7 @@ pub struct Spot {
 }
 
 /// What an insertion made.
-#[derive(Clone, Copy, Debug, PartialEq, Eq)]
+#[derive(Clone, Copy)]
 pub struct Inserted {
     /// The top of the list's tree.
     pub top: u32,
@@ -31,7 +31,7 @@ pub struct Inserted {
 }
 
 /// What a removal left.
-#[derive(Clone, Copy, Debug, PartialEq, Eq)]
+#[derive(Clone, Copy)]
 pub struct Rest {
     /// The top of the list's tree.
     pub top: u32,
@@ -40,7 +40,7 @@ pub struct Rest {
 }
 
 /// Trees in one arena.
-#[derive(Debug, Drop)]
+#[derive(Drop)]
 pub struct Trees {
     nodes: Vec<Node>,
     /// The slot that came free last. Each free slot names the one before it.

@@ -14,7 +14,7 @@ use std::marker::Model;
 use xsv_steps::{Ledger, Steps};
 
 /// The number of a row in a `Rows`. A number that was given back comes again. Contracts see the number.
-#[derive(Clone, Copy, Debug, PartialEq, Eq)]
+#[derive(Clone, Copy, PartialEq)]
 pub struct RowId {
     number: u32,
 }

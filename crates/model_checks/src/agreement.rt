@@ -11,7 +11,7 @@ use xs_components::TypeId;
 use xs_names::NameId;
 
 /// A name, and the type of a declaration with this name.
-#[derive(Clone, Copy, Debug)]
+#[derive(Clone, Copy)]
 pub(crate) struct TypedName {
     pub(crate) name: NameId,
     pub(crate) of: TypeId,

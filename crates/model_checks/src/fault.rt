@@ -1,7 +1,7 @@
 //! What is broken of a content model.
 
 /// What is broken of a content model.
-#[derive(Clone, Copy, Debug, PartialEq, Eq)]
+#[derive(Clone, Copy)]
 pub enum ModelFault {
     /// There are more than 2,048 positions (x-limit.positions).
     TooManyPositions,

@@ -14,13 +14,13 @@ use xs_components::TermId;
 use xsv_steps::{Ledger, Steps};
 
 /// Where child elements lead to by the automaton of a content model (Structures 3.8.4).
-#[derive(Clone, Copy, Debug, PartialEq, Eq)]
+#[derive(Clone, Copy)]
 pub struct ChildState {
     pub(crate) reached: Reached,
 }
 
 /// A state of an automaton.
-#[derive(Clone, Copy, Debug, PartialEq, Eq)]
+#[derive(Clone, Copy)]
 pub(crate) enum Reached {
     /// Of one over states.
     Row(u16),

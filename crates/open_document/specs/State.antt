@@ -21,7 +21,7 @@ with_documents documents set = record { set = set; documents = documents }
 -- A session over a document, the schema documents of the stream, and how many record lines a question for those with a code is answered by at
 -- most; the trees that were before the present one and those that were left by undoing; the changes that lead from each to the next, by which
 -- goes what going there costs; and the turns of the authors, in order: each edit, undo and redo that was accepted, with the revision that it made. What
--- else commands come to need, the number of the present set, has its field here.
+-- else commands come to need has its field here.
 pub record OpenState : Type 0 where
   pub session : State
   pub documents : List SchemaInput

@@ -8,8 +8,10 @@ use Rattle.tree_inverses.specs.Edits.{change_of}
 use Rattle.assessment.specs.Assessment.{Entry}
 use Rattle.session_model.specs.State.{after_edit, next_revision}
 use Rattle.edit_session.specs.Changed.{after_change}
-use Rattle.undo_log.specs.History.{History, edited, undone, redone}
-use Rattle.undo_log.specs.Log.{Log, noted, with_undo_taken, with_undo_answered, with_redo_taken, with_redo_answered}
+use Rattle.edit_session.specs.Reopened.{after_swap}
+use Rattle.assessment.specs.Attribution.{SchemaSet}
+use Rattle.undo_log.specs.History.{History, opened, edited, undone, redone}
+use Rattle.undo_log.specs.Log.{Log, cleared, noted, with_undo_taken, with_undo_answered, with_redo_taken, with_redo_answered}
 use Rattle.author_turns.specs.Turns.{turn}
 use Rattle.author_turns.specs.declared.turn.Turn.{Turn}
 use Rattle.author_turns.specs.declared.touched.Touched.{Touched}
@@ -28,6 +30,15 @@ with_edit s author edit d found = record s {
   history = edited kept_trees s.history d.forest;
   log = noted s.log (inverse_of s.session.document (change_of s.session.document edit));
   turns = with_turn s author (touched edit s.session.document.forest);
+}
+
+-- Behind a swap to another set, by which this is found of the document. The document stays; it has no past and no future then, and the turns of
+-- authors stay: a swap is none, and touches nothing.
+abbrev pub with_swap : OpenState → SchemaSet → List Entry → OpenState
+with_swap s set found = record s {
+  session = after_swap s.session set found;
+  history = opened s.session.document.forest;
+  log = cleared s.log;
 }
 
 -- where a step goes: the history behind it, the change of the present document that it is, the changes behind it, and what it touches

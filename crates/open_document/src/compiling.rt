@@ -1,6 +1,6 @@
 //! Schema documents compiled, for a workspace.
 
-ghost use Rattle.std.specs.Prelude.{◌≡◌, ◌<◌, List, All, length, IfOk, OnOk};
+ghost use Rattle.std.specs.Prelude.{◌≡◌, ◌<◌, ℕ, List, All, length, IfOk, OnOk};
 ghost use Rattle.tree_rows.specs.Whole.{IsTree};
 ghost use Rattle.schema_compile.specs.Outcomes.{IsOutcome};
 ghost use Rattle.schema_set.specs.declared.inputs.SchemaInput.{SchemaInput as SchemaInputData};
@@ -15,7 +15,7 @@ ghost use Rattle.open_document.specs.State.{ready, with_documents};
 use crate::SetVerdict;
 use crate::held::{Held, make_ready};
 use compiled_schema::Compiled;
-use schema_compile::{Outcome, compile};
+use schema_compile::{Outcome, compile_from};
 use schema_set::SchemaInput;
 use std::alloc::{AllocError, Global};
 use wildcard_laws::wildcards_name_spaces_of_their_table;
@@ -59,7 +59,7 @@ fn take(
     outcome: Outcome,
     documents: Vec<SchemaInput>,
 ) -> Result<SetVerdict, AllocError>
-    requires usable { (all : List SchemaInputData) × IsOutcome all outcome }
+    requires usable { (all : List SchemaInputData) × (start : ℕ) × IsOutcome all start outcome }
     requires kept { IsKept held.old }
     ensures told { IfOk result (λ told. told ≡ answers.verdict_of (told_of outcome)) }
     ensures work { OnOk result (work_of held.new ≡ answers.work_after (work_of held.old) documents.items (told_of outcome)) }
@@ -72,13 +72,17 @@ fn take(
     }
 }
 
-// What schema documents come to.
-fn outcome_of(alloc: Global, documents: &[SchemaInput]) -> Result<Outcome, AllocError>
-    requires some { 0 < length documents.now }
-    ensures outcome { IfOk result (IsOutcome documents.now) }
+/// What schema documents come to, where a set starts at the one of this place.
+pub(crate) fn outcome_of(
+    alloc: Global,
+    documents: &[SchemaInput],
+    start: u32,
+) -> Result<Outcome, AllocError>
+    requires place { start < length documents.now }
+    ensures outcome { IfOk result (IsOutcome documents.now start) }
 {
     are_whole(documents);
-    compile(alloc, documents)
+    compile_from(alloc, documents, start)
 }
 
 /// Compiles schema documents, and keeps the set with them where it is accepted.
@@ -92,7 +96,7 @@ pub(crate) fn compile_into(
     ensures compiled { IfOk result (λ told. answers.IsCompiled documents.items (work_of held.old) told (work_of held.new)) }
     ensures kept { IsKept held.new }
 {
-    match outcome_of(alloc, documents.as_slice()) {
+    match outcome_of(alloc, documents.as_slice(), 0) {
         Ok(outcome) => take(held, alloc, outcome, documents),
         Err(error) => Err(error),
     }

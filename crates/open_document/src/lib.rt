@@ -9,6 +9,7 @@ mod laws;
 mod line;
 mod next;
 mod reply;
+mod swapping;
 mod touches;
 mod turning;
 mod verdict;

@@ -4,7 +4,7 @@ use assess_records::Validity;
 use xs_codes::Fault;
 
 /// What is told of schema documents.
-#[derive(Clone, Copy, Debug, PartialEq, Eq)]
+#[derive(Clone, Copy)]
 pub enum SetVerdict {
     /// Documents are assessed by the set.
     Accepted,
@@ -13,7 +13,7 @@ pub enum SetVerdict {
 }
 
 /// What the last line tells of a document.
-#[derive(Clone, Copy, Debug, PartialEq, Eq)]
+#[derive(Clone, Copy)]
 pub struct Verdict {
     pub validity: Validity,
     pub total: u64,

@@ -60,7 +60,7 @@ fn answer_line<W: Sink, L: Ledger>(
     ensures later { steps.old ≤ steps.new }
 {
     match read_command(alloc, line, block) {
-        Ok(read) => answer_read(document, read, sink, steps),
+        Ok(read) => answer_read(alloc, document, read, sink, steps),
         Err(_) => Err(BreakOff::Memory),
     }
 }

@@ -1,6 +1,6 @@
 //! The law of outcomes.
 
-ghost use Rattle.std.specs.Prelude.{List};
+ghost use Rattle.std.specs.Prelude.{ℕ, List};
 ghost use Rattle.outcome_laws.specs.Same.{IsSameOutcome};
 ghost use Rattle.schema_compile.specs.Outcomes.{IsOutcome};
 ghost use Rattle.schema_compile.specs.declared.outcome.Outcome.{Outcome};
@@ -9,5 +9,5 @@ ghost use Rattle.schema_set.specs.declared.inputs.SchemaInput.{SchemaInput};
 /// Documents have one outcome: two outcomes of the same documents name the same fault, or both accept sets with the same names, components,
 /// members of substitution groups, classes of declarations and paths of identity constraints, by which the same texts are told.
 pub fn outcomes_are_one()
-    ensures only { (documents : List SchemaInput) (a b : Outcome) → IsOutcome documents a → IsOutcome documents b → IsSameOutcome a b }
+    ensures only { (documents : List SchemaInput) (start : ℕ) (a b : Outcome) → IsOutcome documents start a → IsOutcome documents start b → IsSameOutcome a b }
 {}

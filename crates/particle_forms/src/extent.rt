@@ -4,7 +4,7 @@ ghost use Rattle.std.specs.Prelude.{◌≡◌};
 ghost use Rattle.particle_forms.specs.Ranges.{nothing, once, both, either, times, most_both, most_either, most_times};
 
 /// How many elements there are at least and at most: `None` where there is no bound. Numbers stop at the greatest of their type.
-#[derive(Clone, Copy, Debug)]
+#[derive(Clone, Copy)]
 pub(crate) struct TotalRange {
     pub(crate) least: u64,
     pub(crate) most: Option<u64>,

@@ -10,7 +10,7 @@ use std::marker::Model;
 use xs_components::{Components, Members, NsConstraint, Term};
 
 /// For each particle of a schema set, whether it is an element or a wildcard that accepts some name.
-#[derive(Debug, Drop)]
+#[derive(Drop)]
 pub struct Inhabited {
     pub(crate) flags: Vec<bool>,
 }

@@ -12,7 +12,7 @@ use std::alloc::{AllocError, Global};
 use xs_components::{Components, ParticleId};
 
 /// The nodes of a content model (Structures 3.8.1), each over those before it, and the number of the model's own.
-#[derive(Debug, Drop)]
+#[derive(Drop)]
 pub struct ModelNodes {
     pub nodes: Vec<Node>,
     pub root: u32,

@@ -14,7 +14,7 @@ use std::marker::Model;
 use xs_components::{Components, ParticleId, Term};
 
 /// The effective total ranges of all particles of a schema set (Structures 3.8.6), by the numbers of the particles.
-#[derive(Debug, Drop)]
+#[derive(Drop)]
 pub struct Ranges {
     table: Vec<TotalRange>,
 }

@@ -13,7 +13,7 @@ use xs_lists::Listed;
 
 /// A particle without pointless groups: its parts, each over earlier ones, and the number of its own; `None` where nothing is
 /// left of it.
-#[derive(Debug, Drop)]
+#[derive(Drop)]
 pub struct Form {
     pub parts: Vec<Part>,
     pub root: Option<u32>,

@@ -13,7 +13,7 @@ use std::alloc::{AllocError, Global};
 use xs_lists::Listed;
 
 /// What was made of a node: the node below its occurrences, the bounds of these, and the part of its form.
-#[derive(Clone, Copy, Debug)]
+#[derive(Clone, Copy)]
 pub(crate) struct Made {
     pub(crate) body: usize,
     pub(crate) bounds: Bounds,

@@ -3,7 +3,7 @@
 use xs_lists::Listed;
 
 /// A particle of a content model, over earlier ones by number. Group references are replaced by the group's own particle.
-#[derive(Debug, Drop)]
+#[derive(Drop)]
 pub enum Node {
     /// An element or a wildcard, by the number of its particle.
     Term(u32),

@@ -13,7 +13,7 @@ use std::alloc::{AllocError, Global};
 use std::marker::Model;
 
 /// What is still to be done.
-#[derive(Clone, Copy, Debug)]
+#[derive(Clone, Copy)]
 pub(crate) enum Task {
     /// Number the terms of this node.
     Enter(u32),
@@ -22,7 +22,7 @@ pub(crate) enum Task {
 }
 
 /// The numbers of the terms along the positions so far, and the particles of the terms.
-#[derive(Debug, Drop)]
+#[derive(Drop)]
 pub(crate) struct Numbering {
     pub(crate) numbers: Vec<u32>,
     pub(crate) terms: Vec<u32>,

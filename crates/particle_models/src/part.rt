@@ -7,7 +7,7 @@ ghost use Rattle.particle_models.specs.Pointless as pointless;
 use xs_lists::Listed;
 
 /// How often a particle may come (Structures 3.9.1).
-#[derive(Clone, Copy, Debug, PartialEq, Eq)]
+#[derive(Clone, Copy)]
 pub struct Bounds {
     pub least: u32,
     /// `None` where there is no bound.
@@ -41,7 +41,7 @@ impl Bounds {
 }
 
 /// How the members of a group come together (Structures 3.8.1).
-#[derive(Clone, Copy, Debug, PartialEq, Eq)]
+#[derive(Clone, Copy, PartialEq)]
 pub enum Compositor {
     Sequence,
     Choice,
@@ -61,7 +61,7 @@ impl Compositor {
 }
 
 /// A particle of a form, over earlier ones by number.
-#[derive(Debug, Drop)]
+#[derive(Drop)]
 pub enum Part {
     /// An element or a wildcard, by the number of its term.
     Leaf(Bounds, u32),

@@ -19,7 +19,7 @@ use xs_positions::{Positions, PositionsError, find_positions};
 pub const MOST_POSITIONS: u32 = 2_048;
 
 /// A model unrolled: its terms, and its positions, the copies of the terms.
-#[derive(Debug, Drop)]
+#[derive(Drop)]
 pub struct Unrolled {
     positions: Positions,
     numbers: Vec<u32>,

@@ -10,7 +10,7 @@ use std::alloc::{AllocError, Global};
 use xs_positions::{Expr, ExprId};
 
 /// Expressions, and for each node the number of its own.
-#[derive(Debug, Drop)]
+#[derive(Drop)]
 pub(crate) struct Shared {
     pub(crate) expr: Expr,
     pub(crate) ids: Vec<ExprId>,

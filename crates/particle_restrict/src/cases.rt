@@ -11,7 +11,7 @@ use particle_models::{Compositor, Form, Part};
 use xs_codes::Code;
 
 /// The cases of Particle Valid (Restriction) (Structures 3.9.6).
-#[derive(Clone, Copy, Debug)]
+#[derive(Clone, Copy)]
 pub(crate) enum Case {
     /// The one never restricts the other.
     Forbidden,

@@ -19,7 +19,7 @@ use std::alloc::{AllocError, Global};
 
 /// Whether a particle restricts another, and whether it restricts that other where it is an element or a wildcard that may come
 /// any number of times.
-#[derive(Clone, Copy, Debug)]
+#[derive(Clone, Copy)]
 pub(crate) struct Cell {
     pub(crate) restricts: bool,
     pub(crate) within: bool,

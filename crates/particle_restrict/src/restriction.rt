@@ -15,7 +15,7 @@ use std::alloc::{AllocError, Global};
 use xs_codes::Code;
 
 /// Why it is not said that a particle restricts another.
-#[derive(Debug, Drop)]
+#[derive(Drop)]
 pub enum RestrictFault {
     /// It does not: the code of the case of the two particles.
     Broken(Code),

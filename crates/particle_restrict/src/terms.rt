@@ -7,7 +7,7 @@ use xs_components::{ConstraintIdList, Methods, TypeId, Wildcard};
 use xs_names::{NameId, NsId};
 
 /// An element declaration (Structures 3.3.1), as far as the restriction of particles looks at it.
-#[derive(Debug, Drop)]
+#[derive(Drop)]
 pub struct Declaration {
     pub name: NameId,
     /// The namespace of the name.
@@ -21,7 +21,7 @@ pub struct Declaration {
 }
 
 /// A wildcard (Structures 3.10.1).
-#[derive(Debug, Drop)]
+#[derive(Drop)]
 pub struct Space {
     pub wildcard: Wildcard,
     /// Whether it is that of anyType's content (Structures 3.4.7).
@@ -29,7 +29,7 @@ pub struct Space {
 }
 
 /// What the leaf of a form stands for.
-#[derive(Debug, Drop)]
+#[derive(Drop)]
 pub enum Term {
     Element(Declaration),
     Any(Space),

@@ -12,7 +12,7 @@ use std::alloc::{AllocError, Global};
 use std::marker::Model;
 
 /// How many elements there are at least and at most: `None` where there is no bound. Numbers stop at the greatest of their type.
-#[derive(Clone, Copy, Debug)]
+#[derive(Clone, Copy)]
 pub(crate) struct Total {
     pub(crate) least: u64,
     pub(crate) most: Option<u64>,

@@ -1,4 +1,5 @@
 mod Adding
+mod Ending
 mod Attributing
 mod Walking
 mod Extending

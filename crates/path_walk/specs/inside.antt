@@ -1,3 +1,4 @@
 pub mod Nodes
 pub mod Walk
+pub mod Ends
 pub mod Extended

@@ -1,19 +1,38 @@
 //! The nodes of a field, from a target downwards.
 
-ghost use Rattle.std.specs.Prelude.{◌≡◌, ◌<◌, [], All, length, IfOk, OnOk};
+ghost use Rattle.std.specs.Prelude.{◌≡◌, ◌<◌, [], false, All, length, IfOk, OnOk};
 ghost use Rattle.component_tables.specs.ContentTypes.{AreContentsOf};
 ghost use Rattle.identity_constraints.specs.Seen.{KeyElement, KeyForest, element};
 ghost use Rattle.identity_constraints.specs.Targets as spec;
 ghost use Rattle.path_walk.specs.Sight.{AreNamed};
 ghost use Rattle.path_walk.specs.inside.Nodes.{AreAdded, summed};
+ghost use Rattle.xpath_subset.specs.inside.Steps.{child_count};
+ghost use Rattle.path_walk.specs.inside.Ends.{EndsWithin};
 ghost use Rattle.path_walk.specs.inside.Walk.{nodes_along, reached};
 
 use crate::attributes::add_nodes;
 use crate::nodes::FieldNodes;
 use crate::{KeySet, KeySiblings};
 use std::alloc::AllocError;
-use xpath_subset::Paths;
+use xpath_subset::{Paths, Step};
 use xs_names::NameId;
+
+// How many elements steps lead down.
+fn count_down(steps: &[Step]) -> usize
+    ensures { result ≡ child_count steps.now }
+{
+    steps
+        .iter()
+        .filter(|step| matches!(step, Step::Child(_)))
+        .count()
+}
+
+// Whether a field may reach nodes at the end of ways of more elements than so many.
+fn reaches_deeper(field: &Paths, depth: usize) -> bool
+    ensures { result ≡ false → EndsWithin field.now depth }
+{
+    field.as_slice().iter().any(|path| path.anywhere || depth < count_down(path.steps.as_slice()))
+}
 
 // Adds the nodes of a field among siblings and what is below them. The way leads to their parent, and is kept.
 fn add_below<T: KeySiblings>(
@@ -30,6 +49,9 @@ fn add_below<T: KeySiblings>(
     ensures nodes { OnOk result (AreAdded set.now.parts.now (nodes_along set.now.names.now field.now way.old.items (T.forest siblings)) nodes.old nodes.new) }
 {
     let depth = way.len();
+    if !reaches_deeper(field, depth) {
+        return Ok(());
+    }
     let mut left = siblings;
     'left: while let Some(own) = left.first() {
         way.push(own.name)?;

@@ -11,7 +11,7 @@ use simple_values::{Key, Value, key_of};
 use std::alloc::{AllocError, Global};
 
 // How many nodes there are.
-#[derive(Clone, Copy, PartialEq, Eq)]
+#[derive(Clone, Copy)]
 pub(crate) enum NodeCount {
     NoNode,
     OneNode,

@@ -15,7 +15,7 @@ use std::mem;
 use xs_positions::ExprId;
 
 /// An expression: the one of the root among the terms. Contracts see `regex_of`.
-#[derive(Debug, Drop)]
+#[derive(Drop)]
 pub struct Term {
     /// The terms.
     pub terms: Terms,
@@ -25,14 +25,14 @@ pub struct Term {
 }
 
 /// A group around the one in hand: its branches that are done, and the pieces of the one in hand.
-#[derive(Debug, Drop)]
+#[derive(Drop)]
 pub(crate) struct OpenGroup {
     pub branches: Vec<ExprId>,
     pub pieces: Vec<ExprId>,
 }
 
 /// The groups that are open, and their terms.
-#[derive(Debug, Drop)]
+#[derive(Drop)]
 pub(crate) struct Building {
     alloc: Global,
     terms: Terms,

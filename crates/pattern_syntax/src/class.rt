@@ -8,7 +8,7 @@ use crate::set::CharSet;
 use std::alloc::{AllocError, Global};
 
 /// An item of a group: a character, a range from one character to another, or a set that an escape names.
-#[derive(Clone, Copy, Debug, PartialEq, Eq)]
+#[derive(Clone, Copy)]
 pub enum ClassItem {
     /// The character itself.
     One(char),
@@ -22,7 +22,7 @@ pub enum ClassItem {
 
 /// The characters of the items or, where it is negated, all others (Datatypes, appendix F.1, positive and negative
 /// character groups).
-#[derive(Debug, Drop)]
+#[derive(Drop)]
 pub struct CharGroup {
     /// Whether the group stands for the characters that no item has.
     pub negated: bool,
@@ -32,7 +32,7 @@ pub struct CharGroup {
 
 /// A class of characters. Contracts see the list of its groups: the characters of the first, less those of the class of
 /// the groups after it.
-#[derive(Debug, Drop)]
+#[derive(Drop)]
 pub enum CharClass {
     /// The characters of one item.
     Item(ClassItem),

@@ -10,7 +10,7 @@ use std::alloc::{AllocError, Global};
 use std::mem;
 
 /// The groups of a class, each subtracted from the one before it: those that are done, and the one in hand.
-#[derive(Debug, Drop)]
+#[derive(Drop)]
 pub(crate) struct ClassInHand {
     alloc: Global,
     groups: Vec<CharGroup>,

@@ -7,7 +7,7 @@ ghost use Rattle.pattern_syntax.specs.Names.{begins_is as begins_is_of};
 use crate::names::set_named;
 
 /// Why a text is refused as a pattern.
-#[derive(Clone, Copy, Debug, PartialEq, Eq)]
+#[derive(Clone, Copy, Debug)]
 pub enum PatternFault {
     /// The text is no pattern. The place is the number of characters of the longest front that begins some pattern.
     Syntax(usize),
@@ -20,7 +20,7 @@ pub enum PatternFault {
 }
 
 /// What in a pattern is to be refused.
-#[derive(Clone, Copy, Debug)]
+#[derive(Clone, Copy)]
 pub(crate) struct Notes {
     /// The fault of the first class name that is not accepted.
     pub bad_name: Option<PatternFault>,

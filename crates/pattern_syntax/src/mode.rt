@@ -1,14 +1,14 @@
 //! Where a reader stands.
 
 /// Whether something stands in a class expression.
-#[derive(Clone, Copy, Debug)]
+#[derive(Clone, Copy)]
 pub(crate) enum Place {
     Branch,
     Class,
 }
 
 /// What may come next.
-#[derive(Clone, Copy, Debug)]
+#[derive(Clone, Copy)]
 pub(crate) enum Mode {
     /// A piece, or where the last one has no quantifier yet, that.
     Piece(bool),

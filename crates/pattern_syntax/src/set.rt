@@ -7,7 +7,7 @@ ghost use Rattle.pattern_syntax.specs.Sets.{in_set, in_block};
 use ucd_category::{GeneralCategory, GeneralCategoryGroup};
 
 /// A set of characters that an escape or the wildcard stands for (Datatypes, appendix F.1.1).
-#[derive(Clone, Copy, Debug, PartialEq, Eq)]
+#[derive(Clone, Copy)]
 pub enum CharSet {
     /// The wildcard `.`: every character but line feed and carriage return.
     NotLineEnd,
@@ -30,7 +30,7 @@ pub enum CharSet {
 }
 
 /// A block of characters.
-#[derive(Clone, Copy, Debug, PartialEq, Eq)]
+#[derive(Clone, Copy)]
 pub enum Block {
     /// `IsBasicLatin`
     BasicLatin,

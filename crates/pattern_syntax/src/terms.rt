@@ -11,7 +11,7 @@ use std::alloc::{AllocError, Global};
 use xs_positions::{Expr, ExprId};
 
 /// Terms, each under its number. Contracts see the list of the regular expressions, `regexes_of`, which only grows.
-#[derive(Debug, Drop)]
+#[derive(Drop)]
 pub struct Terms {
     classes: Vec<CharClass>,
     /// The terms over the numbers of classes.

@@ -11,7 +11,7 @@ use xs_names::Text;
 
 /// A tree of elements and texts. Contracts see a document whose forest is one root, within the limits, with the next
 /// free number.
-#[derive(Debug, Drop)]
+#[derive(Drop)]
 pub struct Tree {
     rows: Vec<Row>,
     next_free: u32,

@@ -77,15 +77,15 @@ same-fault : (f : Fault) (d i : ℕ) → f.phase ≡ 2 → d ≡ f.document → 
 same-fault f d i p e g =
     ap (λ n. made 2 n i f.code) e ∙ ap (λ n. made 2 f.document n f.code) g ∙ ap (λ n. made n f.document f.item f.code) (sym p)
 
-module _ (available : List Available) (set : List SetDocument) (is : IsEffectiveSet available set) where
-  to-fault : (f : Fault) → IsSetFault available set f → IsRedefineFault available f
+module _ (available : List Available) (start : ℕ) (set : List SetDocument) (is : IsEffectiveSet available start set) where
+  to-fault : (f : Fault) → IsSetFault available set f → IsRedefineFault available start f
   to-fault f o =
       let d = o.0 in
       let k = o.2 in
       let b = k.2 in
       let there = All-contains (IsDocument available) set d is.there o.1 in
       let shapes : d.shaped.now.shapes ≡ there.1.shaped.shapes = ap (λ (s : ShapedSchema). s.shapes) there.4 in
-      subst (IsRedefineFault available) b.is (record {
+      subst (IsRedefineFault available start) b.is (record {
         place = there.0;
         document = there.1;
         target = d.target;
@@ -95,14 +95,14 @@ module _ (available : List Available) (set : List SetDocument) (is : IsEffective
         phase = refl;
         number = there.2;
         there = there.3;
-        within = All-contains (λ (e : SetDocument). InSet available e.number e.target) set d is.only o.1;
+        within = All-contains (λ (e : SetDocument). InSet available start e.number e.target) set d is.only o.1;
         says = subst (λ (xs : List Shape). Contains (redefining xs) k.0) shapes k.1;
         declares = b.broken.declares;
         item = refl;
         code = subst (λ (xs : List Shape). BreaksHere available d.number xs d.target b.broken.of b.broken.name k.0 b.c) shapes b.broken.breaks;
       })
 
-  from-fault : (f : Fault) → IsRedefineFault available f → IsSetFault available set f
+  from-fault : (f : Fault) → IsRedefineFault available start f → IsSetFault available set f
   from-fault f b =
       let e = is.each f.document b.target b.within in
       let d = e.0 in
@@ -127,8 +127,8 @@ module _ (available : List Available) (set : List SetDocument) (is : IsEffective
         ),
       )
 
-  pub set-least : (r : Option Fault) → IsLeast (IsSetFault available set) r → IsLeast (IsRedefineFault available) r
-  set-least r least = least-same (IsSetFault available set) (IsRedefineFault available) to-fault from-fault r least
+  pub set-least : (r : Option Fault) → IsLeast (IsSetFault available set) r → IsLeast (IsRedefineFault available start) r
+  set-least r least = least-same (IsSetFault available set) (IsRedefineFault available start) to-fault from-fault r least
 
 -- ---- of entries
 module _ {X Y : Type 0} (Is : Y → Fault → Type 0) (f : X → Y) where

@@ -133,9 +133,9 @@ module _ (available : List Available) where
         → BreaksHere document shapes target of name child code.XRedefineCircle
     own : (c : Code) → Breaks shapes target name child.shape of c → BreaksHere document shapes target of name child c
 
-  -- A constraint that what stands in a redefine of the set breaks. A document that is in the set with several target namespaces breaks
-  -- what it breaks with one of them.
-  pub record IsRedefineFault (f : Fault) : Type 0 where
+  -- A constraint that what stands in a redefine breaks, in the set that starts at this place. A document that is in the set with several
+  -- target namespaces breaks what it breaks with one of them.
+  pub record IsRedefineFault (start : ℕ) (f : Fault) : Type 0 where
     pub place : ℕ
     pub document : Available
     pub target : Option (List ℕ)
@@ -145,7 +145,7 @@ module _ (available : List Available) where
     pub phase : f.phase ≡ 2
     pub number : place + 1 ≡ f.document
     pub there : slice_get available place ≡ Some document
-    pub within : InSet available f.document target
+    pub within : InSet available start f.document target
     pub says : Contains (redefining document.shaped.shapes) child
     pub declares : declared_as child.shape.form ≡ Some (of, name)
     pub item : child.shape.item ≡ f.item

@@ -41,9 +41,9 @@ redefined-is : (form : Form) (location : List ℕ) → redefined form ≡ Some l
 redefined-is (forms.Redefine other) location is = inr (ap (λ (l : List ℕ). forms.Redefine l) (same_Some other location is))
 redefined-is _ location is = absurd (none-some location is)
 
-module _ (sources : List Available) (set : List SetDocument) (effective : IsEffectiveSet sources set) where
+module _ (sources : List Available) {start : ℕ} (set : List SetDocument) (effective : IsEffectiveSet sources start set) where
   -- a document of the set says what one of its elements does
-  says : (document : ℕ) (target : Option (List ℕ)) → InSet sources document target → (s : Shape) → Contains (shapes_at sources document) s → (location : List ℕ) → IsInclusion s.form location
+  says : (document : ℕ) (target : Option (List ℕ)) → InSet sources start document target → (s : Shape) → Contains (shapes_at sources document) s → (location : List ℕ) → IsInclusion s.form location
       → Says sources document (λ form. IsInclusion form location)
   says document target within s has location is =
       let d = effective.each document target within in
@@ -54,23 +54,23 @@ module _ (sources : List Available) (set : List SetDocument) (effective : IsEffe
 
   module _ (target : Option (List ℕ)) where
     abbrev AreIn : List ℕ → Type 0
-    AreIn left = (document : ℕ) → Contains left document → InSet sources document target
+    AreIn left = (document : ℕ) → Contains left document → InSet sources start document target
 
-    inclusions-in : (document : ℕ) → InSet sources document target → AreIn (inclusions sources document)
+    inclusions-in : (document : ℕ) → InSet sources start document target → AreIn (inclusions sources document)
     inclusions-in document within other has =
         let from = in-filter_map (λ (s : Shape). option_and_then (document_at sources) (included s.form)) (shapes_at sources document) other has in
         by from.0 from.1 (included from.0.form) refl from.2
       where
-        by : (s : Shape) → Contains (shapes_at sources document) s → (o : Option (List ℕ)) → included s.form ≡ o → option_and_then (document_at sources) o ≡ Some other → InSet sources other target
+        by : (s : Shape) → Contains (shapes_at sources document) s → (o : Option (List ℕ)) → included s.form ≡ o → option_and_then (document_at sources) o ≡ Some other → InSet sources start other target
         by s has None e is = absurd (none-some other is)
         by s has (Some location) e is = by-inclusion document other target location within (says document target within s has location (included-is s.form location e)) is
 
-    finds-in : (of : Redefinable) (name : List ℕ) (left seen : List ℕ) (found : Option Version) → Finds sources of name left seen found → AreIn left → (w : Version) → found ≡ Some w → InSet sources w.document target
+    finds-in : (of : Redefinable) (name : List ℕ) (left seen : List ℕ) (found : Option Version) → Finds sources of name left seen found → AreIn left → (w : Version) → found ≡ Some w → InSet sources start w.document target
     finds-in of name _ _ _ (nowhere seen) all w e = absurd (none-some w e)
     finds-in of name _ _ _ (again d left seen found c f) all w e = finds-in of name left seen found f (λ x has. all x (contains-rest d x left has)) w e
     finds-in of name _ _ _ (here d left seen v out is) all w e =
         let own = version-is of name d (shapes_at sources d) v is in
-        subst (λ (x : Version). InSet sources x.document target) (same_Some v w e) (subst (λ (n : ℕ). InSet sources n target) (sym own.place) (all d (contains-first d left)))
+        subst (λ (x : Version). InSet sources start x.document target) (same_Some v w e) (subst (λ (n : ℕ). InSet sources start n target) (sym own.place) (all d (contains-first d left)))
     finds-in of name _ _ _ (further d left seen found out none f) all w e =
         finds-in of name (inclusions sources d ++ left) (d ∷ seen) found f
         (λ x has. elim (Contains-append_cases (inclusions sources d) left x has) [
@@ -79,13 +79,13 @@ module _ (sources : List Available) (set : List SetDocument) (effective : IsEffe
         ]) w e
 
     -- the document of a location that a document of the set redefines
-    located-in : (document : ℕ) → InSet sources document target → (location : List ℕ) → Says sources document (λ form. IsInclusion form location) → AreIn (option_to_list (document_at sources location))
+    located-in : (document : ℕ) → InSet sources start document target → (location : List ℕ) → Says sources document (λ form. IsInclusion form location) → AreIn (option_to_list (document_at sources location))
     located-in document within location said = by (document_at sources location) refl
       where
         by : (o : Option ℕ) → document_at sources location ≡ o → AreIn (option_to_list o)
         by None e other has = absurd (omega (arith, has.1))
         by (Some found) e other has = elim (contains-cases found other [] has) [
-          | inl same ↦ subst (λ (n : ℕ). InSet sources n target) same (by-inclusion document found target location within said e)
+          | inl same ↦ subst (λ (n : ℕ). InSet sources start n target) same (by-inclusion document found target location within said e)
           | inr more ↦ absurd (omega (arith, more.1))
         ]
 
@@ -124,8 +124,8 @@ found-some {X} test (y ∷ xs) n x at is = by (test y) refl n at (λ k there. fo
     by false e (suc n) at later = let rest = later n at in (rest.0, ap (λ (b : Bool). cond b (Some y) (find test xs)) e ∙ rest.1)
 
 -- ---- each redefining component has an original
-module _ (sources : List Available) (set : List SetDocument) (effective : IsEffectiveSet sources set) (originals : List (Option ℕ)) (are : AreOriginals sources set originals)
-    (all : (i : ℕ) (d : SetDocument) → slice_get set i ≡ Some d → AreElements (shapes_of d)) (sound : (f : Fault) → IsRedefineFault sources f → ⊥)
+module _ (sources : List Available) {start : ℕ} (set : List SetDocument) (effective : IsEffectiveSet sources start set) (originals : List (Option ℕ)) (are : AreOriginals sources set originals)
+    (all : (i : ℕ) (d : SetDocument) → slice_get set i ≡ Some d → AreElements (shapes_of d)) (sound : (f : Fault) → IsRedefineFault sources start f → ⊥)
   where
     module _ (version : ℕ) (slot : Slot) (at : slice_get (slots 0 set) version ≡ Some slot) (of : Redefinable) (name : List ℕ) (declares : declared_as slot.shape.form ≡ Some (of, name)) where
       abbrev list : List Shape
@@ -140,8 +140,8 @@ module _ (sources : List Available) (set : List SetDocument) (effective : IsEffe
       is-document : IsDocument sources slot.document
       is-document = All-contains (IsDocument sources) set slot.document effective.there (at-contains set own.i slot.document own.document)
 
-      is-within : InSet sources slot.document.number target
-      is-within = All-contains (λ (d : SetDocument). InSet sources d.number d.target) set slot.document effective.only (at-contains set own.i slot.document own.document)
+      is-within : InSet sources start slot.document.number target
+      is-within = All-contains (λ (d : SetDocument). InSet sources start d.number d.target) set slot.document effective.only (at-contains set own.i slot.document own.document)
 
       module _ (c : Child) (found : child_of list slot.shape.item ≡ Some c) where
         from : IsInRedefine list c × (c.shape ≡ slot.shape)
@@ -178,7 +178,7 @@ module _ (sources : List Available) (set : List SetDocument) (effective : IsEffe
             let same : list ≡ shapes_at sources slot.document.number = shapes-same sources set originals are all slot.document slot.document.number is-document refl in
             let said = says sources set effective slot.document.number target is-within redefine.redefine
             (subst (λ (xs : List Shape). Contains xs redefine.redefine) same (at-contains list redefine.at redefine.redefine redefine.is)) c.location (redefined-is redefine.redefine.form c.location redefine.location) in
-            let within : InSet sources w.document target =
+            let within : InSet sources start w.document target =
             finds-in sources set effective target of name (option_to_list (document_at sources c.location)) [] (Some w) is
             (located-in sources set effective target slot.document.number is-within c.location said) w refl in
             let e = effective.each w.document target within in

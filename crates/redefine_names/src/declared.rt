@@ -5,7 +5,7 @@ use representations::{Representation, Represented};
 use xs_names::NameId;
 
 /// The symbol spaces whose components may be redefined (Structures 4.2.2). Simple and complex types share one.
-#[derive(Debug, Clone, Copy, PartialEq, Eq)]
+#[derive(Clone, Copy)]
 pub enum VersionKind {
     Type,
     Group,
@@ -13,7 +13,7 @@ pub enum VersionKind {
 }
 
 /// What a representation declares in such a symbol space.
-#[derive(Debug, Clone, Copy, PartialEq, Eq)]
+#[derive(Clone, Copy)]
 pub struct Declared {
     pub kind: VersionKind,
     pub name: NameId,

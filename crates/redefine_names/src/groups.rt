@@ -11,7 +11,7 @@ use std::alloc::{AllocError, Global};
 
 /// The groups and the attribute groups of a schema set that redefine others without a reference to themselves (Structures 4.2.2),
 /// with these.
-#[derive(Debug, Drop)]
+#[derive(Drop)]
 pub struct RedefinedGroups {
     pub groups: Vec<RedefinedPair>,
     pub attr_groups: Vec<RedefinedPair>,

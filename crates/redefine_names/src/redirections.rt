@@ -14,7 +14,7 @@ use std::alloc::{AllocError, Global};
 use xs_names::{NameId, Names};
 
 /// What references of a kind to a name go to in its place.
-#[derive(Debug, Clone, Copy, PartialEq, Eq)]
+#[derive(Clone, Copy)]
 pub struct Redirection {
     pub kind: VersionKind,
     pub from: NameId,

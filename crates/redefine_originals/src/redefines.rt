@@ -14,7 +14,7 @@ use xs_lists::Listed;
 use xs_names::Text;
 
 /// A redefine: its location, and the numbers of the elements in it.
-#[derive(Debug, Clone, Copy)]
+#[derive(Clone, Copy)]
 pub(crate) struct Redefine<'a> {
     pub(crate) location: &'a Text,
     pub(crate) members: &'a [u32],

@@ -7,7 +7,7 @@ use schema_shape::{Form, Shape};
 use xs_names::Text;
 
 /// The kinds of components that a redefine may hold (Structures 4.2.2). Simple and complex types are one kind.
-#[derive(Debug, Clone, Copy, PartialEq, Eq)]
+#[derive(Clone, Copy)]
 pub enum Redefinable {
     Type,
     Group,
@@ -15,14 +15,14 @@ pub enum Redefinable {
 }
 
 /// What an element declares at the top of a document or in a redefine.
-#[derive(Debug, Clone, Copy)]
+#[derive(Clone, Copy)]
 pub struct Declared<'a> {
     pub kind: Redefinable,
     pub name: &'a Text,
 }
 
 /// An element that stands in a redefine.
-#[derive(Debug, Clone, Copy)]
+#[derive(Clone, Copy)]
 pub struct Child<'a> {
     /// The location of the redefine.
     pub location: &'a Text,
@@ -30,7 +30,7 @@ pub struct Child<'a> {
 }
 
 /// A version of a component.
-#[derive(Debug, Clone, Copy)]
+#[derive(Clone, Copy)]
 pub struct Version<'a> {
     /// The number of its document, from 1.
     pub document: u32,

@@ -9,7 +9,7 @@ use std::alloc::{AllocError, Global};
 use xs_names::NameId;
 
 /// The names of those kinds of components that share a symbol space with others, by the places of representations.
-#[derive(Debug, Drop)]
+#[derive(Drop)]
 pub(crate) struct Kinds {
     simples: Symbols,
     // Keys and uniques.

@@ -8,7 +8,7 @@ use std::alloc::{AllocError, Global};
 use xs_names::NameId;
 
 /// A reference to a component, by the kind that is needed.
-#[derive(Debug, Clone, Copy, PartialEq, Eq)]
+#[derive(Clone, Copy)]
 pub(crate) enum Reference {
     ToElement(NameId),
     ToAttribute(NameId),

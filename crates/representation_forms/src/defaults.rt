@@ -6,7 +6,7 @@ use xs_components::Methods;
 
 /// The methods that a document's elements have where they say none: finalDefault and blockDefault of its schema element
 /// (Structures 3.15.2).
-#[derive(Debug, Clone, Copy, PartialEq, Eq)]
+#[derive(Clone, Copy)]
 pub struct Defaults {
     pub finals: Methods,
     pub blocks: Methods,

@@ -11,7 +11,7 @@ use std::alloc::AllocError;
 use xs_names::{Names, NsId, Text};
 
 /// How the elements of a document are read that has a target namespace in a set.
-#[derive(Debug, Drop)]
+#[derive(Drop)]
 pub struct Reading {
     /// How names are meant.
     pub naming: Naming,

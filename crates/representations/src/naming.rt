@@ -8,7 +8,7 @@ use tree_rows::Expanded;
 use xs_names::{NameId, Names, NsId, Text};
 
 /// How the names in a document are meant that has this target namespace in a schema set.
-#[derive(Debug, Drop)]
+#[derive(Drop)]
 pub struct Naming {
     /// The target namespace; `None` is the absent one.
     pub target: Option<Text>,

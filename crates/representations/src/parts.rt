@@ -4,7 +4,7 @@ use xs_lists::Listed;
 use xs_names::{NameId, Text};
 
 /// A type by its name: anyType, a built-in type, or a type that the documents may define.
-#[derive(Debug, Clone, Copy, PartialEq, Eq)]
+#[derive(Clone, Copy)]
 pub enum TypeName {
     AnyType,
     Builtin(Builtin),
@@ -12,14 +12,14 @@ pub enum TypeName {
 }
 
 /// A default or a fixed value, as it stands.
-#[derive(Debug, Drop)]
+#[derive(Drop)]
 pub struct GivenValue {
     pub fixed: bool,
     pub text: Text,
 }
 
 /// A declaration of an element, or a reference to one (Structures 3.3.2).
-#[derive(Debug, Drop)]
+#[derive(Drop)]
 pub struct ElementRepresentation {
     /// Whether it stands at the top of a schema document.
     pub global: bool,
@@ -37,7 +37,7 @@ pub struct ElementRepresentation {
 }
 
 /// A declaration of an attribute, or a reference to one (Structures 3.2.2).
-#[derive(Debug, Drop)]
+#[derive(Drop)]
 pub struct AttributeRepresentation {
     /// Whether it stands at the top of a schema document.
     pub global: bool,
@@ -51,7 +51,7 @@ pub struct AttributeRepresentation {
 }
 
 /// A complex type (Structures 3.4.2).
-#[derive(Debug, Drop)]
+#[derive(Drop)]
 pub struct ComplexTypeRepresentation {
     pub name: Option<NameId>,
     pub is_abstract: bool,
@@ -61,7 +61,7 @@ pub struct ComplexTypeRepresentation {
 }
 
 /// What an element of a schema document represents.
-#[derive(Debug, Drop)]
+#[derive(Drop)]
 pub enum Represented {
     Element(ElementRepresentation),
     Attribute(AttributeRepresentation),
@@ -134,7 +134,7 @@ pub enum Represented {
 }
 
 /// An element of a schema document, and what it represents.
-#[derive(Debug, Drop)]
+#[derive(Drop)]
 pub struct Representation {
     pub at: Place,
     /// The place of its scope among the scopes of the set.

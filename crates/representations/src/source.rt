@@ -8,7 +8,7 @@ use xs_names::{NameId, Scope};
 
 /// The names of a schema set in each symbol space (Structures 2.5), by the places of representations. Simple and complex types
 /// share one space.
-#[derive(Debug, Drop)]
+#[derive(Drop)]
 pub struct SymbolSpaces {
     pub types: Symbols,
     pub elements: Symbols,

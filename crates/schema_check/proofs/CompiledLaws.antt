@@ -32,8 +32,8 @@ use Rattle.schema_check.specs.Simple.{AreTypesSimple}
 use Rattle.schema_check.specs.SimpleParts.{HasSimpleTypes}
 use Rattle.schema_check.proofs.TypeLaws.{of-set}
 
-module _ (documents : List SchemaInput) (trees : All (λ input. IsTree input.tree) documents) where
-  no-faults : shape_phase documents None → (f : Fault) → IsShapeFault documents f → ⊥
+module _ (documents : List SchemaInput) (start : ℕ) (trees : All (λ input. IsTree input.tree) documents) where
+  no-faults : shape_phase documents start None → (f : Fault) → IsShapeFault documents start f → ⊥
   unfolding shape_phase
   no-faults none = none
 
@@ -42,12 +42,12 @@ module _ (documents : List SchemaInput) (trees : All (λ input. IsTree input.tre
   of-tree d by =
       (d.number, by.1.tree, subst (λ (input : SchemaInput). IsTree input.tree) (get_or_from_slice_get documents by.0 by.1 by.1 by.2) (trees by.0 by.1 (slice_get_within documents by.0 by.1 by.2)), by.3)
 
-  pub shaped-set : (made : CompiledSet) → IsCompilation documents (Ok made) → (set : List SetDocument) × (originals : List (Option ℕ)) × All IsOfTree set × IsSetCompiled set originals (Ok made)
+  pub shaped-set : (made : CompiledSet) → IsCompilation documents start (Ok made) → (set : List SetDocument) × (originals : List (Option ℕ)) × All IsOfTree set × IsSetCompiled set originals (Ok made)
   shaped-set made is =
       let set = is.1 in (
         set,
         is.2,
-        (λ k d h. of-tree (get_or set k d) (all-shaped documents set is.3 (no-faults is.0.0) k d h)),
+        (λ k d h. of-tree (get_or set k d) (all-shaped documents start set is.3 (no-faults is.0.0) k d h)),
         is.5,
       )
 
@@ -76,5 +76,5 @@ module _ (resolve : (t : NameTable) (origins : List Origin) (reps : List Represe
         let ranked = is.1.3.same in
         grown parts made.parts ranked.0 (parts-simple set originals parts of is.0.0 is.1.2) ranked.1.filled.grown
 
-    pub compiled-simple : (documents : List SchemaInput) (made : CompiledSet) → All (λ input. IsTree input.tree) documents → IsCompilation documents (Ok made) → HasSimpleTypes made.parts
-    compiled-simple documents made trees is = let s = shaped-set documents trees made is in set-simple s.0 s.1 made s.2 s.3
+    pub compiled-simple : (documents : List SchemaInput) (start : ℕ) (made : CompiledSet) → All (λ input. IsTree input.tree) documents → IsCompilation documents start (Ok made) → HasSimpleTypes made.parts
+    compiled-simple documents start made trees is = let s = shaped-set documents start trees made is in set-simple s.0 s.1 made s.2 s.3

@@ -24,7 +24,7 @@ use xs_components::Components;
 use xs_names::{Names, Scope};
 
 /// The components of a schema set, and the groups and attribute groups that redefine others without a reference to themselves.
-#[derive(Debug, Drop)]
+#[derive(Drop)]
 pub struct BuiltSet {
     pub parts: Components,
     pub redefined: RedefinedGroups,

@@ -13,7 +13,8 @@ use build_components::tables_are_closed;
 use redefine_faults::first_redefine_fault;
 use redefine_originals::set_originals;
 use schema_set::{
-    Available, ClosedSet, EffectiveSet, SchemaInput, close_set, first_shape_fault, read_documents,
+    Available, ClosedSet, EffectiveSet, SchemaInput, close_set_from, first_shape_fault,
+    read_documents,
 };
 use std::alloc::{AllocError, Global};
 use xs_codes::{Fault, sooner};
@@ -49,16 +50,17 @@ fn compile_composed(
     compile_set(alloc, set, originals.as_slice())
 }
 
-// The first fault of how the documents of a set are composed.
+// The first fault of how the documents of a set are composed that starts at a place.
 fn composition_fault<'a>(
     alloc: Global,
     available: &'a [Available],
+    start: u32,
     closed: &ClosedSet<'a>,
 ) -> Result<Option<Fault>, AllocError>
-    requires some { 0 < length available.now }
-    requires set { IsEffectiveSet available.now closed.now.set.documents }
-    requires least { IsLeast (IsCompositionFault available.now) closed.now.fault }
-    ensures { IfOk result (inside.IsComposed available.now) }
+    requires place { start < length available.now }
+    requires set { IsEffectiveSet available.now start closed.now.set.documents }
+    requires least { IsLeast (IsCompositionFault available.now start) closed.now.fault }
+    ensures { IfOk result (inside.IsComposed available.now start) }
 {
     let found = first_redefine_fault(alloc, available, closed.set.documents.as_slice())?;
     Ok(sooner(closed.fault, found))
@@ -68,14 +70,15 @@ fn composition_fault<'a>(
 fn compile_closed<'a>(
     alloc: Global,
     available: &'a [Available],
+    start: u32,
     closed: &ClosedSet<'a>,
 ) -> Result<Result<CompiledSet, Fault>, AllocError>
-    requires some { 0 < length available.now }
-    requires set { IsEffectiveSet available.now closed.now.set.documents }
-    requires least { IsLeast (IsCompositionFault available.now) closed.now.fault }
-    ensures { IfOk result (inside.IsClosedCompiled available.now closed.now.set.documents) }
+    requires place { start < length available.now }
+    requires set { IsEffectiveSet available.now start closed.now.set.documents }
+    requires least { IsLeast (IsCompositionFault available.now start) closed.now.fault }
+    ensures { IfOk result (inside.IsClosedCompiled available.now start closed.now.set.documents) }
 {
-    let found = composition_fault(alloc, available, closed)?;
+    let found = composition_fault(alloc, available, start, closed)?;
     match found {
         Some(fault) => Ok(Err(fault)),
         None => compile_composed(alloc, available, &closed.set),
@@ -83,27 +86,28 @@ fn compile_closed<'a>(
 }
 
 /// The schema set of documents compiled: phase by phase, shapes, composition, names, bases, simple types. The set is what the
-/// first document leads to. The first fault of the first phase that has one is answered, by document, element and the order of
+/// document of the place `start` leads to. The first fault of the first phase that has one is answered, by document, element and the order of
 /// codes.
 ///
 /// # Errors
 ///
 /// `AllocError` is want of memory, or of places: there are 65,535 documents at most, and a set has at most 2 to the power of 32
 /// elements.
-pub fn compile(
+pub fn compile_from(
     alloc: Global,
     documents: &[SchemaInput],
+    start: u32,
 ) -> Result<Result<CompiledSet, Fault>, AllocError>
-    requires some { 0 < length documents.now }
-    ensures { IfOk result (spec.IsCompilation documents.now) }
+    requires place { start < length documents.now }
+    ensures { IfOk result (spec.IsCompilation documents.now start) }
 {
     let read = read_documents(alloc, documents)?;
     let available = read.available.as_slice();
-    let closed = close_set(alloc, available)?;
+    let closed = close_set_from(alloc, available, start)?;
     let faults = read.faults.as_slice();
     let set = closed.set.documents.as_slice();
     match first_shape_fault(faults, set) {
         Some(fault) => Ok(Err(fault)),
-        None => compile_closed(alloc, available, &closed),
+        None => compile_closed(alloc, available, start, &closed),
     }
 }

@@ -17,9 +17,9 @@ use crate::{
 /// type is made of is simple, and so are the types of attributes and those that stand in simple content.
 pub fn compiled_types_are_simple()
     ensures set { (set : List SetDocument) (originals : List (Option ℕ)) (made : CompiledSet) → All IsOfTree set → IsSetCompiled set originals (Ok made) → HasSimpleTypes made.parts }
-    ensures shaped { (documents : List SchemaInput) (made : CompiledSet) → All (λ input. IsTree input.tree) documents → IsCompilation documents (Ok made)
+    ensures shaped { (documents : List SchemaInput) (start : ℕ) (made : CompiledSet) → All (λ input. IsTree input.tree) documents → IsCompilation documents start (Ok made)
         → (set : List SetDocument) × (originals : List (Option ℕ)) × All IsOfTree set × IsSetCompiled set originals (Ok made) }
-    ensures compiled { (documents : List SchemaInput) (made : CompiledSet) → All (λ input. IsTree input.tree) documents → IsCompilation documents (Ok made) → HasSimpleTypes made.parts }
+    ensures compiled { (documents : List SchemaInput) (start : ℕ) (made : CompiledSet) → All (λ input. IsTree input.tree) documents → IsCompilation documents start (Ok made) → HasSimpleTypes made.parts }
 {
     names_resolve();
     components_are_simple();

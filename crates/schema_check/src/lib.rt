@@ -13,7 +13,7 @@ mod types;
 mod version_laws;
 
 pub use building::{BuiltSet, build};
-pub use compiling::compile;
+pub use compiling::compile_from;
 pub use documents::CompiledSet;
 pub use laws::compiled_types_are_simple;
 pub use number_laws::kind_numbers_are_those_of_tables;

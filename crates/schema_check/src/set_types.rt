@@ -1,4 +1,4 @@
-ghost use Rattle.std.specs.Prelude.{◌≡◌, List, None, All};
+ghost use Rattle.std.specs.Prelude.{◌≡◌, ℕ, List, None, All};
 ghost use Rattle.xs_codes.specs.Least.{IsLeast};
 ghost use Rattle.xs_names.specs.Names.{NameTable};
 ghost use Rattle.xs_components.specs.Tables.{Tables};
@@ -23,7 +23,7 @@ use crate::shaped::representations_are_shaped;
 /// type is made of is simple, and so are the types of attributes and those that stand in simple content. It stays so when ranks
 /// are given and contents are set.
 pub fn set_types_are_simple()
-    ensures documents { (available : List Available) (ds : List SetDocument) → All (λ a. IsDeclared a.shaped) available → IsEffectiveSet available ds → All IsOfTree ds }
+    ensures documents { (available : List Available) (start : ℕ) (ds : List SetDocument) → All (λ a. IsDeclared a.shaped) available → IsEffectiveSet available start ds → All IsOfTree ds }
     ensures built { (t : NameTable) (origins : List Origin) (ds : List SetDocument) (source : Source) (parts : Tables) → All IsOfTree ds
         → IsLeast (IsBroken t origins (representations t ds)) None → source.reps.now ≡ representations t ds → source.spaces.now ≡ spaces_of (representations t ds)
         → parts ≡ built source → HasSimpleTypes parts }

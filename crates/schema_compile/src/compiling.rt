@@ -62,20 +62,24 @@ fn complete(alloc: Global, mut set: CompiledSet) -> Result<Outcome, AllocError>
 }
 
 /// Schema documents compiled, phase by phase: shapes, composition, names, bases, simple types, attributes, derivation, content
-/// models, their restriction, identity constraints. The set is what the first document leads to. The first fault of the first phase
-/// that has one is answered, by document, element and the order of codes.
+/// models, their restriction, identity constraints. The set is what the document of the place `start` leads to. The first fault of the
+/// first phase that has one is answered, by document, element and the order of codes.
 ///
 /// # Errors
 ///
 /// `AllocError` is want of memory, or of places: there are 65,535 documents at most, and a set has at most 2 to the power of 32
 /// elements.
-pub fn compile(alloc: Global, documents: &[SchemaInput]) -> Result<Outcome, AllocError>
-    requires some { 0 < length documents.now }
+pub fn compile_from(
+    alloc: Global,
+    documents: &[SchemaInput],
+    start: u32,
+) -> Result<Outcome, AllocError>
+    requires place { start < length documents.now }
     requires trees { All (λ input. IsTree input.tree) documents.now }
-    ensures outcome { IfOk result (spec.IsOutcome documents.now) }
+    ensures outcome { IfOk result (spec.IsOutcome documents.now start) }
 {
     compiled_parts_are_fit();
-    let compiled = schema_check::compile(alloc, documents)?;
+    let compiled = schema_check::compile_from(alloc, documents, start)?;
     match compiled {
         Ok(set) => complete(alloc, set),
         Err(fault) => Ok(Outcome::Broken(fault)),

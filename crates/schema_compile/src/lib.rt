@@ -9,7 +9,7 @@ mod laws;
 mod outcome;
 mod phase_laws;
 
-pub use compiling::compile;
+pub use compiling::compile_from;
 pub use laws::compiled_parts_are_fit;
 pub use outcome::Outcome;
 pub use phase_laws::the_first_late_fault_is_the_only_one;

@@ -1,7 +1,7 @@
 use xs_codes::Code;
 
 /// A constraint that an element breaks.
-#[derive(Debug, Clone, Copy, PartialEq, Eq)]
+#[derive(Clone, Copy)]
 pub struct Broken {
     /// The number of the element.
     pub item: u32,

@@ -85,11 +85,11 @@ less x y a b h other e f = elim (cases_lt x y) [ inl l ↦ omega (arith, l, e, f
 not-apart : (k l : ℕ) → (k < l → ⊥) → (l < k → ⊥) → k ≡ l
 not-apart k l h g = elim (cases_lt k l) [ inl a ↦ absurd (h a) | inr b ↦ elim (cases_lt l k) [ inl a ↦ absurd (g a) | inr c ↦ omega (arith, b, c) ] ]
 
-module _ (available : List Available) (some : 0 < length available) (seen : List Bool) (reached : (y : ℕ) → (marked seen y ≡ true) ↔ Reaches available y)
+module _ (available : List Available) (start : ℕ) (some : start < length available) (seen : List Bool) (reached : (y : ℕ) → (marked seen y ≡ true) ↔ Reaches available start y)
     (documents : List SetDocument) (are : map entry_of documents ≡ map (entry_at available) (marks 0 seen)) where
   -- the number of a document
   record Numbered (d : SetDocument) (x : ℕ) : Type 0 where
-    pub stands-so : Stands available some x
+    pub stands-so : Stands available start some x
     pub same : entry_at available x ≡ entry_of d
 
   number-read : (m : ℕ) (d : SetDocument) → slice_get documents m ≡ Some d → (x : ℕ) × (slice_get (marks 0 seen) m ≡ Some x) × Numbered d x
@@ -97,7 +97,7 @@ module _ (available : List Available) (some : 0 < length available) (seen : List
       let p = paired entry_of (entry_at available) documents (marks 0 seen) are m d is in
       let r = marks-read 0 seen m p.0 p.1 in
       let same : r.0 ≡ p.0 = omega (arith, r.1) in
-      (p.0, p.1, record { stands-so = stands available some p.0 ((reached p.0).0 (subst (λ k. marked seen k ≡ true) same r.2)); same = p.2 })
+      (p.0, p.1, record { stands-so = stands available start some p.0 ((reached p.0).0 (subst (λ k. marked seen k ≡ true) same r.2)); same = p.2 })
 
   number-of : (d : SetDocument) → Contains documents d → (x : ℕ) × Numbered d x
   number-of d c = let r = read-there documents d c in let x = number-read r.0 d r.1 in (x.0, x.2)
@@ -114,8 +114,8 @@ module _ (available : List Available) (some : 0 < length available) (seen : List
         let a = some-mapped (λ (a : Available). a.shaped) (slice_get available (x / length available)) d.shaped.now (ap (λ (e : Entry). e.shaped) is.same) in
         (x / length available, a.0, number-is, a.1, sym a.2)
 
-    inside-is : InSet available d.number d.target
-    inside-is = subst (InSet available d.number) target-is (subst (λ k. InSet available k (own_target_of available (x % length available + 1))) number-is is.stands-so.inside)
+    inside-is : InSet available start d.number d.target
+    inside-is = subst (InSet available start d.number) target-is (subst (λ k. InSet available start k (own_target_of available (x % length available + 1))) number-is is.stands-so.inside)
 
     place-is : x % length available ≡ target_place available d.target
     place-is = sym is.stands-so.place ∙ ap (target_place available) target-is
@@ -126,9 +126,9 @@ module _ (available : List Available) (some : 0 < length available) (seen : List
       let x = number-read k d (slice_get-get_or documents k e within) in
       h d x.0 x.2
 
-  each-there : (number : ℕ) (target : Option (List ℕ)) → InSet available number target → (d : SetDocument) × Contains documents d × (d.number ≡ number) × (d.target ≡ target)
+  each-there : (number : ℕ) (target : Option (List ℕ)) → InSet available start number target → (d : SetDocument) × Contains documents d × (d.number ≡ number) × (d.target ≡ target)
   each-there number target i =
-      let l = led available some number target i in
+      let l = led available start some number target i in
       let m = marks-has 0 seen l.0 ((reached l.0).1 l.1) in
       let same : 0 + l.0 ≡ l.0 = omega arith in
       let p = paired (entry_at available) entry_of (marks 0 seen) documents (sym are) m.0 l.0 (m.1 ∙ ap (λ k. Some k) same) in
@@ -139,7 +139,8 @@ module _ (available : List Available) (some : 0 < length available) (seen : List
   rising d e x y is js h =
       let s = div-add-mod' x (length available) in
       let t = div-add-mod' y (length available) in
-      let rows : x / length available ≤ y / length available = le-div (x / length available) y (length available) some (omega (arith, s, h)) in
+      let any : 0 < length available = omega (arith, some) in
+      let rows : x / length available ≤ y / length available = le-div (x / length available) y (length available) any (omega (arith, s, h)) in
       let a = number-is d x is in
       let b = number-is e y js in
       elim (cases_eq (x / length available) (y / length available)) [
@@ -163,10 +164,10 @@ module _ (available : List Available) (some : 0 < length available) (seen : List
       let place : target_place available d.target ≡ target_place available e.target = ap (target_place available) target in
       elim (in-order k l d e h is js) [ inl lower ↦ omega (arith, lower, number) | inr first ↦ omega (arith, first.1, place) ]
 
-  pub effective-set : IsEffectiveSet available documents
+  pub effective-set : IsEffectiveSet available start documents
   effective-set = record {
     there = each-listed (IsDocument available) document-is;
-    only = each-listed (λ d. InSet available d.number d.target) inside-is;
+    only = each-listed (λ d. InSet available start d.number d.target) inside-is;
     each = each-there;
     once = λ k l d e is js number target. not-apart k l (not-twice k l d e is js number target) (not-twice l k e d js is (sym number) (sym target));
   }

@@ -140,8 +140,8 @@ same-fault : (f : Fault) (d i : ℕ) → f.phase ≡ 2 → d ≡ f.document → 
 same-fault f d i p e g =
     ap (λ n. made 2 n i f.code) e ∙ ap (λ n. made 2 f.document n f.code) g ∙ ap (λ n. made n f.document f.item f.code) (sym p)
 
-module _ (available : List Available) (documents : List SetDocument) (is : IsEffectiveSet available documents) where
-  to-broken : (f : Fault) → Contains (set_faults available documents) f → Broken available f
+module _ (available : List Available) (start : ℕ) (documents : List SetDocument) (is : IsEffectiveSet available start documents) where
+  to-broken : (f : Fault) → Contains (set_faults available documents) f → Broken available start f
   to-broken f c =
       let l = in-flat_map (document_faults available) documents f c in
       let d = l.0 in
@@ -150,7 +150,7 @@ module _ (available : List Available) (documents : List SetDocument) (is : IsEff
       let m = in-map (fault_at d.number shape.item) (broken_codes available d.target shape.form) f k.2 in
       let there = All-contains (IsDocument available) documents d is.there l.1 in
       let shapes : d.shaped.now.shapes ≡ there.1.shaped.shapes = ap (λ (s : ShapedSchema). s.shapes) there.4 in
-      subst (Broken available) m.2 (record {
+      subst (Broken available start) m.2 (record {
         place = there.0;
         document = there.1;
         target = d.target;
@@ -158,13 +158,13 @@ module _ (available : List Available) (documents : List SetDocument) (is : IsEff
         phase = refl;
         number = there.2;
         there = there.3;
-        inside = All-contains (λ (e : SetDocument). InSet available e.number e.target) documents d is.only l.1;
+        inside = All-contains (λ (e : SetDocument). InSet available start e.number e.target) documents d is.only l.1;
         says = subst (λ (xs : List Shape). Contains xs shape) shapes k.1;
         item = refl;
         code = m.1;
       })
 
-  from-broken : (f : Fault) → Broken available f → Contains (set_faults available documents) f
+  from-broken : (f : Fault) → Broken available start f → Contains (set_faults available documents) f
   from-broken f b =
       let e = is.each f.document b.target b.inside in
       let d = e.0 in
@@ -180,5 +180,5 @@ module _ (available : List Available) (documents : List SetDocument) (is : IsEff
       (map-has (fault_at d.number b.shape.item) (broken_codes available d.target b.shape.form) f.code code) in
       flat_map-has (document_faults available) documents d f e.1 (flat_map-has (shape_faults available d) d.shaped.now.shapes b.shape f listed fault)
 
-  pub set-least : (r : Option Fault) → IsLeast (Contains (set_faults available documents)) r → IsLeast (Broken available) r
-  set-least r least = least-same (Contains (set_faults available documents)) (Broken available) to-broken from-broken r least
+  pub set-least : (r : Option Fault) → IsLeast (Contains (set_faults available documents)) r → IsLeast (Broken available start) r
+  set-least r least = least-same (Contains (set_faults available documents)) (Broken available start) to-broken from-broken r least

@@ -7,7 +7,7 @@ use Rattle.std.proofs.lemmas.List.{get_or-set_same, get_or-set_other, drop_more}
 use Rattle.std.proofs.lemmas.List.Elements.{All-contains, All-weaker, Contains-push, Contains-push_cases, Contains-append_left}
 use Rattle.std.proofs.lemmas.List.Sums.{sum_by-set}
 use Rattle.schema_set.specs.declared.documents.Available.{Available}
-use Rattle.schema_set.specs.inside.Following.{following, Reaches, start, further}
+use Rattle.schema_set.specs.inside.Following.{with_own, following, Reaches, begins, further}
 use Rattle.schema_set.specs.inside.Marks.{marked, one_if_not, unmarked, marks, IsMarking, IsReach}
 
 module _ (seen : List Bool) (y : ℕ) (there : y < length seen) where
@@ -45,22 +45,23 @@ module _ (seen : List Bool) (y : ℕ) (there : y < length seen) where
           let longer = length-append todo (y ∷ []) in
           omega (arith, law, one, longer, m.count)
 
-module _ (available : List Available) where
+module _ (available : List Available) (start : ℕ) where
   -- the first mark
-  pub reach-begun : (old : List Bool) (todo : List ℕ) → ((y : ℕ) → marked old y ≡ false) → 0 < length old → todo ≡ [] ++ 0 ∷ [] → IsReach available (set old 0 true) todo
-  reach-begun old todo none there is = record {
-    reached = λ y h. elim (marked-cases old 0 there y h) [ inl same ↦ subst (Reaches available) same start | inr o ↦ absurd (true≢false (sym o ∙ none y)) ];
-    waiting = λ y c. elim (Contains-push_cases [] 0 y (subst (λ (l : List ℕ). Contains l y) is c)) [ inl o ↦ absurd (omega (arith, o.1)) | inr same ↦ subst (λ v. marked (set old 0 true) v ≡ true) same (marked-set old 0 there) ];
-    begun = marked-set old 0 there;
-    closed = λ y h. elim (marked-cases old 0 there y h) [ inl same ↦ inl (subst (Contains todo) same (subst (λ (l : List ℕ). Contains l 0) (sym is) (Contains-push [] 0))) | inr o ↦ absurd (true≢false (sym o ∙ none y)) ];
+  pub reach-begun : (first : ℕ) → first ≡ with_own available (start + 1) → (old : List Bool) (todo : List ℕ) → ((y : ℕ) → marked old y ≡ false) → first < length old → todo ≡ [] ++ first ∷ []
+      → IsReach available start (set old first true) todo
+  reach-begun first own old todo none there is = record {
+    reached = λ y h. elim (marked-cases old first there y h) [ inl same ↦ subst (Reaches available start) (sym own ∙ same) begins | inr o ↦ absurd (true≢false (sym o ∙ none y)) ];
+    waiting = λ y c. elim (Contains-push_cases [] first y (subst (λ (l : List ℕ). Contains l y) is c)) [ inl o ↦ absurd (omega (arith, o.1)) | inr same ↦ subst (λ v. marked (set old first true) v ≡ true) same (marked-set old first there) ];
+    begun = subst (λ v. marked (set old first true) v ≡ true) own (marked-set old first there);
+    closed = λ y h. elim (marked-cases old first there y h) [ inl same ↦ inl (subst (Contains todo) same (subst (λ (l : List ℕ). Contains l first) (sym is) (Contains-push [] first))) | inr o ↦ absurd (true≢false (sym o ∙ none y)) ];
   }
 
   -- what one that was to be done leads to is marked
-  pub reach-more : (y : ℕ) (old seen : List Bool) (rest todo : List ℕ) → IsReach available old (rest ++ y ∷ []) → IsMarking (following available y) old seen rest todo → All (λ z. marked seen z ≡ true) (following available y) → IsReach available seen todo
+  pub reach-more : (y : ℕ) (old seen : List Bool) (rest todo : List ℕ) → IsReach available start old (rest ++ y ∷ []) → IsMarking (following available y) old seen rest todo → All (λ z. marked seen z ≡ true) (following available y) → IsReach available start seen todo
   reach-more y old seen rest todo r m all = record {
     reached = λ z h. elim (m.only z h) [ inl o ↦ r.reached z o | inr c ↦ further y z (r.reached y (r.waiting y (Contains-push rest y))) c ];
     waiting = λ z c. elim (m.waits z c) [ inl o ↦ m.kept z (r.waiting z (Contains-append_left rest (y ∷ []) z o)) | inr h ↦ h ];
-    begun = m.kept 0 r.begun;
+    begun = m.kept (with_own available (start + 1)) r.begun;
     closed = λ z h. elim (m.done z h) [
       | inl o ↦ elim (r.closed z o) [
         | inl c ↦ elim (Contains-push_cases rest y z c) [ inl before ↦ inl (m.later z before) | inr same ↦ inr (subst (λ v. All (λ z. marked seen z ≡ true) (following available v)) same all) ]
@@ -74,12 +75,12 @@ module _ (available : List Available) where
       kept v h = All-weaker (λ z. marked old z ≡ true) (λ z. marked seen z ≡ true) m.kept (following available v) h
 
   -- with nothing to be done, all that can be reached is marked
-  path-marked : (seen : List Bool) → marked seen 0 ≡ true → ((y : ℕ) → marked seen y ≡ true → All (λ z. marked seen z ≡ true) (following available y))
-      → (y : ℕ) → Reaches available y → marked seen y ≡ true
-  path-marked seen begun closed _ start = begun
+  path-marked : (seen : List Bool) → marked seen (with_own available (start + 1)) ≡ true → ((y : ℕ) → marked seen y ≡ true → All (λ z. marked seen z ≡ true) (following available y))
+      → (y : ℕ) → Reaches available start y → marked seen y ≡ true
+  path-marked seen begun closed _ begins = begun
   path-marked seen begun closed _ (further x y r c) = All-contains (λ z. marked seen z ≡ true) (following available x) y (closed x (path-marked seen begun closed x r)) c
 
-  pub reach-done : (seen : List Bool) (todo : List ℕ) → length todo ≡ 0 → IsReach available seen todo → (y : ℕ) → (marked seen y ≡ true) ↔ Reaches available y
+  pub reach-done : (seen : List Bool) (todo : List ℕ) → length todo ≡ 0 → IsReach available start seen todo → (y : ℕ) → (marked seen y ≡ true) ↔ Reaches available start y
   reach-done seen todo none r y = (r.reached y, λ l. path-marked seen r.begun closed y l)
     where
       closed : (z : ℕ) → marked seen z ≡ true → All (λ z. marked seen z ≡ true) (following available z)

@@ -1,4 +1,4 @@
--- What the first document leads to is the least set.
+-- What the document of a place leads to is the least set.
 use Rattle.std.proofs.Common.{◌≡◌, ℕ, zero, suc, ◌+◌, ◌-◌, ◌*◌, ◌/◌, ◌%◌, ◌<◌, ◌≤◌, ◌⊎◌, inl, inr, List, [], ◌∷◌, length, map, get_or, ◌^◌, Option, None, Some, refl, sym, ap, ◌∙◌, subst, arith}
 use Rattle.std.specs.Prelude.{All, Contains, slice_get, filter_map, option_and_then}
 use Rattle.std.specs.Option.{option_map}
@@ -12,8 +12,8 @@ use Rattle.schema_shape.specs.declared.forms.ShapedSchema.{ShapedSchema}
 use Rattle.schema_set.specs.declared.documents.Available.{Available}
 use Rattle.schema_set.specs.EffectiveSet.{own_target, IsInclusion, IsImport, Says, InSet, first, included, imported, document_at}
 use Rattle.schema_set.specs.Order.{own_target_of, target_place, IsNumber}
-use Rattle.schema_set.specs.inside.Following.{shapes_of, shapes_at, with_place, with_own, next_of, following, Reaches, start, further}
-use Rattle.schema_set.proofs.PlaceLaws.{first-place, own-read, place-within, place-own}
+use Rattle.schema_set.specs.inside.Following.{shapes_of, shapes_at, with_place, with_own, next_of, following, Reaches, begins, further}
+use Rattle.schema_set.proofs.PlaceLaws.{own-read, place-within, place-own}
 use Rattle.schema_set.proofs.LocationLaws.{document_at-within}
 
 -- ---- lists
@@ -108,19 +108,28 @@ says-of available IsForm place a shape e c f = (place, a, shape, refl, e, c, f)
 said-form : (available : List Available) (document : ℕ) (IsForm : Form → Type 0) (s : Says available document IsForm) → IsForm s.2.form
 said-form available document IsForm s = s.6
 
-module _ (available : List Available) (some : 0 < length available) where
+module _ (available : List Available) (start : ℕ) (some : start < length available) where
+  any : 0 < length available
+  any = omega (arith, some)
+
+  -- the number of the document with its own target namespace
+  begun-is : with_own available (start + 1) ≡ start * length available + target_place available (own_target_of available (start + 1))
+  begun-is =
+      let same : start + 1 - 1 ≡ start = omega arith in
+      ap (λ k. k * length available + target_place available (own_target_of available (start + 1))) same
+
   -- the number is that of a document of the set, and its target namespace stands where the number says
   pub record Stands (x : ℕ) : Type 0 where
     pub within : x < length available * length available
     pub place : target_place available (own_target_of available (x % length available + 1)) ≡ x % length available
-    pub inside : InSet available (x / length available + 1) (own_target_of available (x % length available + 1))
+    pub inside : InSet available start (x / length available + 1) (own_target_of available (x % length available + 1))
 
-  stands-at : (x place target : ℕ) → IsAt (length available) x place target → target_place available (own_target_of available (target + 1)) ≡ target → InSet available (place + 1) (own_target_of available (target + 1)) → Stands x
+  stands-at : (x place target : ℕ) → IsAt (length available) x place target → target_place available (own_target_of available (target + 1)) ≡ target → InSet available start (place + 1) (own_target_of available (target + 1)) → Stands x
   stands-at x place target is t i = record {
     within = is.within;
     place = subst (λ k. target_place available (own_target_of available (k + 1)) ≡ k) (sym is.column) t;
-    inside = subst (λ k. InSet available (x / length available + 1) (own_target_of available (k + 1))) (sym is.column)
-        (subst (λ k. InSet available (k + 1) (own_target_of available (target + 1))) (sym is.row) i);
+    inside = subst (λ k. InSet available start (x / length available + 1) (own_target_of available (k + 1))) (sym is.column)
+        (subst (λ k. InSet available start (k + 1) (own_target_of available (target + 1))) (sym is.row) i);
   }
 
   -- a document is there
@@ -138,27 +147,31 @@ module _ (available : List Available) (some : 0 < length available) where
     low : number - 1 < length available
     low = omega (arith, is.0, is.1)
 
-  -- what the first document leads to is in the set
-  stands-start : Stands 0
-  stands-start =
-      let d = a-document 0 some in
-      let t : own_target_of available (0 + 1) ≡ own_target d.0.shaped.shapes = own-read available 0 d.0 d.1 in
-      let zero-is : 0 ≡ 0 * length available + 0 = omega arith in
-      stands-at 0 0 0 (at-place (length available) 0 0 0 some some zero-is) (ap (target_place available) t ∙ first-place available d.0 d.1) (subst (InSet available 1) (sym t) (first d.0 d.1))
+  -- what the document of the place leads to is in the set
+  stands-begun : Stands (with_own available (start + 1))
+  stands-begun =
+      let b = a-document start some in
+      let own : own_target_of available (start + 1) ≡ own_target b.0.shaped.shapes = own-read available start b.0 b.1 in
+      let place = target_place available (own_target_of available (start + 1)) in
+      let same : place ≡ target_place available (own_target b.0.shaped.shapes) = ap (target_place available) own in
+      let its : own_target_of available (place + 1) ≡ own_target b.0.shaped.shapes = ap (λ p. own_target_of available (p + 1)) same ∙ place-own available start b.0 b.1 in
+      let below : place < length available = subst (λ p. p < length available) (sym same) (place-within available start b.0 b.1) in
+      stands-at (with_own available (start + 1)) start place (at-place (length available) (with_own available (start + 1)) start place some below begun-is)
+      (ap (target_place available) its ∙ sym same) (subst (InSet available start (start + 1)) (sym its) (first b.0 b.1))
 
   stands-further : (x y : ℕ) → Stands x → Contains (following available x) y → Stands y
   stands-further x y s c =
       let k = in-filter_map (λ shape. next_of available (x % length available) shape.form) (shapes_at available (x / length available)) y c in
       let shape = k.0 in
-      let d = a-document (x / length available) (row_below x (length available) some s.within) in
+      let d = a-document (x / length available) (row_below x (length available) any s.within) in
       let says : Contains d.0.shaped.shapes shape = shape-there x d.0 shape d.1 k.1 in
-      let column : x % length available < length available = mod_below x (length available) some in
+      let column : x % length available < length available = mod_below x (length available) any in
       elim (next-cases available (x % length available) shape.form y k.2) [
         | inl i ↦ (
             let number = i.1 in
             let is : IsNumber available number = document_at-within available i.0 number i.3 in
             stands-at y (number - 1) (x % length available) (at-place (length available) y (number - 1) (x % length available) (low number is) column i.4) s.place
-            (subst (λ m. InSet available m (own_target_of available (x % length available + 1))) (sym (back number is))
+            (subst (λ m. InSet available start m (own_target_of available (x % length available + 1))) (sym (back number is))
             (included (x / length available + 1) number (own_target_of available (x % length available + 1)) i.0 s.inside (says-of available (λ form. IsInclusion form i.0) (x / length available) d.0 shape d.1 says i.2) i.3))
             )
         | inr i ↦ (
@@ -171,18 +184,18 @@ module _ (available : List Available) (some : 0 < length available) where
             let its : own_target_of available (place + 1) ≡ own_target b.0.shaped.shapes = ap (λ p. own_target_of available (p + 1)) same ∙ place-own available (number - 1) b.0 b.1 in
             let below : place < length available = subst (λ p. p < length available) (sym same) (place-within available (number - 1) b.0 b.1) in
             stands-at y (number - 1) place (at-place (length available) y (number - 1) place (low number is) below i.4) (ap (target_place available) its ∙ sym same)
-            (subst (InSet available (number - 1 + 1)) (sym its)
+            (subst (InSet available start (number - 1 + 1)) (sym its)
             (imported (x / length available + 1) (number - 1) (own_target_of available (x % length available + 1)) i.0 b.0 s.inside (says-of available (λ form. IsImport form i.0) (x / length available) d.0 shape d.1 says i.2) (i.3 ∙ ap (λ m. Some m) (sym (back number is))) b.1))
             )
       ]
 
-  pub stands : (x : ℕ) → Reaches available x → Stands x
-  stands _ start = stands-start
+  pub stands : (x : ℕ) → Reaches available start x → Stands x
+  stands _ begins = stands-begun
   stands _ (further x y r c) = stands-further x y (stands x r) c
 
   -- each document of the set is led to
   abbrev Led : ℕ → Option (List ℕ) → Type 0
-  Led number target = (x : ℕ) × Reaches available x × (x / length available + 1 ≡ number) × (own_target_of available (x % length available + 1) ≡ target)
+  Led number target = (x : ℕ) × Reaches available start x × (x / length available + 1 ≡ number) × (own_target_of available (x % length available + 1) ≡ target)
 
   follows : (x document y : ℕ) (IsForm : Form → Type 0) → x / length available + 1 ≡ document → (s : Says available document IsForm) → next_of available (x % length available) s.2.form ≡ Some y → Contains (following available x) y
   follows x document y IsForm e s n =
@@ -191,18 +204,22 @@ module _ (available : List Available) (some : 0 < length available) where
       let listed : Contains (shapes_at available (x / length available)) s.2 = subst (λ (xs : List Shape). Contains xs s.2) (sym (ap shapes_of here)) s.5 in
       filter_map-has (λ shape. next_of available (x % length available) shape.form) (shapes_at available (x / length available)) listed.0 s.2 y listed.1 (ap (λ (shape : Shape). next_of available (x % length available) shape.form) listed.2 ∙ n)
 
-  pub led : (number : ℕ) (target : Option (List ℕ)) → InSet available number target → Led number target
+  pub led : (number : ℕ) (target : Option (List ℕ)) → InSet available start number target → Led number target
   led _ _ (first a is) =
-      let zero-is : 0 ≡ 0 * length available + 0 = omega arith in
-      let z = at-place (length available) 0 0 0 some some zero-is in
-      (0, start, ap (λ k. k + 1) z.row, ap (λ k. own_target_of available (k + 1)) z.column ∙ own-read available 0 a is)
+      let own : own_target_of available (start + 1) ≡ own_target a.shaped.shapes = own-read available start a is in
+      let place = target_place available (own_target_of available (start + 1)) in
+      let same : place ≡ target_place available (own_target a.shaped.shapes) = ap (target_place available) own in
+      let its : own_target_of available (place + 1) ≡ own_target a.shaped.shapes = ap (λ p. own_target_of available (p + 1)) same ∙ place-own available start a is in
+      let below : place < length available = subst (λ p. p < length available) (sym same) (place-within available start a is) in
+      let z = at-place (length available) (with_own available (start + 1)) start place some below begun-is in
+      (with_own available (start + 1), begins, ap (λ k. k + 1) z.row, ap (λ k. own_target_of available (k + 1)) z.column ∙ its)
   led _ _ (included document other target location inside says at) =
       let l = led document target inside in
       let x = l.0 in
       let s = stands x l.1 in
       let is : IsNumber available other = document_at-within available location other at in
       let y = with_place available (x % length available) other in
-      let z = at-place (length available) y (other - 1) (x % length available) (low other is) (mod_below x (length available) some) refl in
+      let z = at-place (length available) y (other - 1) (x % length available) (low other is) (mod_below x (length available) any) refl in
       let c = follows x document y (λ form. IsInclusion form location) l.2 says (included-next available (x % length available) says.2.form location other (said-form available document (λ form. IsInclusion form location) says) at) in
       (y, further x y l.1 c, ap (λ k. k + 1) z.row ∙ back other is, ap (λ k. own_target_of available (k + 1)) z.column ∙ l.3)
   led _ _ (imported document n target location b inside says at is) =
@@ -277,6 +294,11 @@ number-fits count number place some within below few =
     let a : number - 1 < count = omega (arith, some, within) in
     let fits = mul-lt count count (2 ^ 16) (2 ^ 16) few few in
     (mul-add-lt (number - 1) count place count a below, omega (arith, fits))
+
+-- the number of a document with its own target namespace
+pub own_within : (available : List Available) (number : ℕ) → IsNumber available number → length available < 2 ^ 16 → with_own available number < length available * length available
+own_within available number is few =
+    (number-fits (length available) number (target_place available (own_target_of available number)) is.0 is.1 (place-below available number is) few).0
 
 pub square-fits : (n : ℕ) → n < 2 ^ 16 → n * n < 2 ^ 32
 square-fits n few = let fits = mul-lt n n (2 ^ 16) (2 ^ 16) few few in omega (arith, fits)

@@ -67,14 +67,14 @@ pub fault-number : (inputs : List SchemaInput) (number : ℕ) (f : Fault) → sh
 fault-number inputs number f is = of-input number (slice_get inputs (number - 1)) f is
 
 -- ---- the faults of the documents of a set are those of the set
-module _ (inputs : List SchemaInput) (set : List SetDocument) (is : IsSet inputs set) (faults : List (Option Fault)) (same : faults ≡ shape_faults inputs) where
+module _ (inputs : List SchemaInput) (start : ℕ) (set : List SetDocument) (is : IsSet inputs start set) (faults : List (Option Fault)) (same : faults ≡ shape_faults inputs) where
   document-fault : (d : SetDocument) → Contains set d → fault_in faults d.number ≡ shape_fault_at inputs d.number
   document-fault d c =
       let there = All-contains (IsDocument (available inputs)) set d is.0.there c in
       let some : 0 < d.number = omega (arith, there.2) in
       ap (λ (l : List (Option Fault)). fault_in l d.number) same ∙ read-fault inputs d.number some
 
-  to-fault : (f : Fault) → Contains (flat_map (document_faults faults) set) f → IsShapeFault inputs f
+  to-fault : (f : Fault) → Contains (flat_map (document_faults faults) set) f → IsShapeFault inputs start f
   to-fault f c =
       let l = in-flat_map (document_faults faults) set f c in
       let d = l.0 in
@@ -82,17 +82,17 @@ module _ (inputs : List SchemaInput) (set : List SetDocument) (is : IsSet inputs
       let number : f.document ≡ d.number = fault-number inputs d.number f own in
       record {
         target = d.target;
-        inside = subst (λ (n : ℕ). InSet (available inputs) n d.target) (sym number)
-            (All-contains (λ (e : SetDocument). InSet (available inputs) e.number e.target) set d is.0.only l.1);
+        inside = subst (λ (n : ℕ). InSet (available inputs) start n d.target) (sym number)
+            (All-contains (λ (e : SetDocument). InSet (available inputs) start e.number e.target) set d is.0.only l.1);
         first = subst (λ (n : ℕ). shape_fault_at inputs n ≡ Some f) (sym number) own;
       }
 
-  from-fault : (f : Fault) → IsShapeFault inputs f → Contains (flat_map (document_faults faults) set) f
+  from-fault : (f : Fault) → IsShapeFault inputs start f → Contains (flat_map (document_faults faults) set) f
   from-fault f b =
       let e = is.0.each f.document b.target b.inside in
       let d = e.0 in
       let own : shape_fault_at inputs d.number ≡ Some f = subst (λ (n : ℕ). shape_fault_at inputs n ≡ Some f) (sym e.2) b.first in
       flat_map-has (document_faults faults) set d f e.1 (option-has (fault_in faults d.number) f (document-fault d e.1 ∙ own))
 
-  pub set-least : (r : Option Fault) → IsLeast (Contains (flat_map (document_faults faults) set)) r → IsLeast (IsShapeFault inputs) r
-  set-least r least = least-same (Contains (flat_map (document_faults faults) set)) (IsShapeFault inputs) to-fault from-fault r least
+  pub set-least : (r : Option Fault) → IsLeast (Contains (flat_map (document_faults faults) set)) r → IsLeast (IsShapeFault inputs start) r
+  set-least r least = least-same (Contains (flat_map (document_faults faults) set)) (IsShapeFault inputs start) to-fault from-fault r least

@@ -31,19 +31,19 @@ of-input (input ∷ inputs) (suc n) a at = of-input inputs n a at
 without-fault : (schema : ShapedSchema) (found : Option Fault) → found ≡ None → answer schema found ≡ Ok schema
 without-fault schema found none = ap (answer schema) none
 
-module _ (inputs : List SchemaInput) (none : (f : Fault) → IsShapeFault inputs f → ⊥) where
+module _ (inputs : List SchemaInput) (start : ℕ) (none : (f : Fault) → IsShapeFault inputs start f → ⊥) where
   -- no fault stands at a number of the set
-  fault-free : (number : ℕ) (target : Option (List ℕ)) (found : Option Fault) → InSet (available inputs) number target → shape_fault_at inputs number ≡ found → found ≡ None
+  fault-free : (number : ℕ) (target : Option (List ℕ)) (found : Option Fault) → InSet (available inputs) start number target → shape_fault_at inputs number ≡ found → found ≡ None
   fault-free number target None inside is = refl
   fault-free number target (Some f) inside is =
       let same : f.document ≡ number = fault-number inputs number f is in
       absurd (none f (record {
         target = target;
-        inside = subst (λ (n : ℕ). InSet (available inputs) n target) (sym same) inside;
+        inside = subst (λ (n : ℕ). InSet (available inputs) start n target) (sym same) inside;
         first = subst (λ (n : ℕ). shape_fault_at inputs n ≡ Some f) (sym same) is;
       }))
 
-  document-shaped : (d : SetDocument) → IsDocument (available inputs) d → InSet (available inputs) d.number d.target → IsShapedBy inputs d
+  document-shaped : (d : SetDocument) → IsDocument (available inputs) d → InSet (available inputs) start d.number d.target → IsShapedBy inputs d
   document-shaped d there inside =
       let n = there.0 in
       let own = of-input inputs n there.1 there.3 in
@@ -60,5 +60,5 @@ module _ (inputs : List SchemaInput) (none : (f : Fault) → IsShapeFault inputs
         without-fault (declared input.tree.forest) (shape_fault d.number input.tree.forest) free ∙ ap (λ (s : ShapedSchema). Ok s) schema,
       )
 
-pub all-shaped : (inputs : List SchemaInput) (set : List SetDocument) → IsSet inputs set → ((f : Fault) → IsShapeFault inputs f → ⊥) → All (IsShapedBy inputs) set
-all-shaped inputs set is none = λ k d h. document-shaped inputs none (get_or set k d) (is.0.there k d h) (is.0.only k d h)
+pub all-shaped : (inputs : List SchemaInput) (start : ℕ) (set : List SetDocument) → IsSet inputs start set → ((f : Fault) → IsShapeFault inputs start f → ⊥) → All (IsShapedBy inputs) set
+all-shaped inputs start set is none = λ k d h. document-shaped inputs start none (get_or set k d) (is.0.there k d h) (is.0.only k d h)

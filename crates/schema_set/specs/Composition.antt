@@ -64,7 +64,7 @@ broken_codes available target _ = []
 -- A constraint that an include, an import or a redefine of the set breaks, the target namespace of its document being that with which
 -- the document is in the set (Structures 4.2.1), also where the document says another one itself, so that its own inclusion is at
 -- fault. A document that is in the set with several target namespaces breaks what it breaks with one of them.
-pub record Broken (available : List Available) (f : Fault) : Type 0 where
+pub record Broken (available : List Available) (start : ℕ) (f : Fault) : Type 0 where
   pub place : ℕ
   pub document : Available
   pub target : Option (List ℕ)
@@ -72,7 +72,7 @@ pub record Broken (available : List Available) (f : Fault) : Type 0 where
   pub phase : f.phase ≡ 2
   pub number : place + 1 ≡ f.document
   pub there : slice_get available place ≡ Some document
-  pub inside : InSet available f.document target
+  pub inside : InSet available start f.document target
   pub says : Contains document.shaped.shapes shape
   pub item : shape.item ≡ f.item
   pub code : Contains (broken_codes available target shape.form) f.code

@@ -40,22 +40,22 @@ document_from number location (a ∷ others) =
 abbrev pub document_at : List Available → List ℕ → Option ℕ
 document_at available location = document_from 1 location available
 
--- The least set that has the first document with its own target, and with each document those that it includes, redefines and
+-- The least set that has the document of the place `start` with its own target, and with each document those that it includes, redefines and
 -- imports. A location of no document adds nothing.
-pub data InSet (available : List Available) : ℕ → Option (List ℕ) → Type 0 where
-  first : (a : Available) → slice_get available 0 ≡ Some a → InSet available 1 (own_target a.shaped.shapes)
-  included : (document other : ℕ) (target : Option (List ℕ)) (location : List ℕ) → InSet available document target → Says available document (λ form. IsInclusion form location)
-      → document_at available location ≡ Some other → InSet available other target
-  imported : (document n : ℕ) (target : Option (List ℕ)) (location : List ℕ) (b : Available) → InSet available document target → Says available document (λ form. IsImport form location)
-      → document_at available location ≡ Some (n + 1) → slice_get available n ≡ Some b → InSet available (n + 1) (own_target b.shaped.shapes)
+pub data InSet (available : List Available) (start : ℕ) : ℕ → Option (List ℕ) → Type 0 where
+  first : (a : Available) → slice_get available start ≡ Some a → InSet available start (start + 1) (own_target a.shaped.shapes)
+  included : (document other : ℕ) (target : Option (List ℕ)) (location : List ℕ) → InSet available start document target → Says available document (λ form. IsInclusion form location)
+      → document_at available location ≡ Some other → InSet available start other target
+  imported : (document n : ℕ) (target : Option (List ℕ)) (location : List ℕ) (b : Available) → InSet available start document target → Says available document (λ form. IsImport form location)
+      → document_at available location ≡ Some (n + 1) → slice_get available n ≡ Some b → InSet available start (n + 1) (own_target b.shaped.shapes)
 
 -- the document of this number stands there
 abbrev pub IsDocument : List Available → SetDocument → Type 0
 IsDocument available d = (n : ℕ) × (a : Available) × (n + 1 ≡ d.number) × (slice_get available n ≡ Some a) × (d.shaped.now ≡ a.shaped)
 
 -- these are the documents of the set, each of them, and none twice with one target
-pub record IsEffectiveSet (available : List Available) (documents : List SetDocument) : Type 0 where
+pub record IsEffectiveSet (available : List Available) (start : ℕ) (documents : List SetDocument) : Type 0 where
   pub there : All (IsDocument available) documents
-  pub only : All (λ d. InSet available d.number d.target) documents
-  pub each : (number : ℕ) (target : Option (List ℕ)) → InSet available number target → (d : SetDocument) × Contains documents d × (d.number ≡ number) × (d.target ≡ target)
+  pub only : All (λ d. InSet available start d.number d.target) documents
+  pub each : (number : ℕ) (target : Option (List ℕ)) → InSet available start number target → (d : SetDocument) × Contains documents d × (d.number ≡ number) × (d.target ≡ target)
   pub once : (m n : ℕ) (d e : SetDocument) → slice_get documents m ≡ Some d → slice_get documents n ≡ Some e → d.number ≡ e.number → d.target ≡ e.target → m ≡ n

@@ -44,6 +44,18 @@ fn own_place(sources: &Sources<'_>, number: u32) -> u32
     place
 }
 
+// The number of a document with its own target namespace.
+#[tactic(auto, using(crate::proofs::ReachLaws::own_within))]
+pub(crate) fn own_number(sources: &Sources<'_>, number: u32) -> u32
+    requires sources { AreSources sources.now }
+    requires number { IsNumber sources.now.available.now number }
+    ensures own { result ≡ spec.with_own sources.now.available.now number }
+    ensures within { result < length sources.now.available.now * length sources.now.available.now }
+{
+    let place = own_place(sources, number);
+    with_place(sources.available.len() as u32, place, number)
+}
+
 // The document of a location with its own target namespace.
 fn imported(sources: &Sources<'_>, location: &Text) -> Result<Option<u32>, AllocError>
     requires sources { AreSources sources.now }
@@ -51,10 +63,7 @@ fn imported(sources: &Sources<'_>, location: &Text) -> Result<Option<u32>, Alloc
 {
     match sources.find(location.as_str())? {
         None => Ok(None),
-        Some(number) => {
-            let place = own_place(sources, number);
-            Ok(Some(with_place(sources.available.len() as u32, place, number)))
-        },
+        Some(number) => Ok(Some(own_number(sources, number))),
     }
 }
 

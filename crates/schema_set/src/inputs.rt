@@ -5,14 +5,14 @@ use xs_codes::Fault;
 use xs_lists::Listed;
 
 /// A schema document as it comes: its tree, and the locations that name it.
-#[derive(Debug, Drop)]
+#[derive(Drop)]
 pub struct SchemaInput {
     pub tree: Tree,
     pub locations: Locations,
 }
 
 /// Schema documents, read.
-#[derive(Debug, Drop)]
+#[derive(Drop)]
 pub struct ReadDocuments {
     /// What the elements of each declare, with its locations.
     pub available: Listed<Available>,

@@ -13,7 +13,7 @@ mod shape_faults;
 mod sources;
 mod targets;
 
-pub use closing::close_set;
+pub use closing::close_set_from;
 pub use documents::{Available, ClosedSet, EffectiveSet, SetDocument};
 pub use inputs::{ReadDocuments, SchemaInput};
 pub use reading::read_documents;

@@ -3,7 +3,7 @@ ghost use Rattle.schema_set.specs.inside.Following.{Reaches};
 ghost use Rattle.schema_set.specs.inside.Marks.{marked, IsMarking};
 ghost use Rattle.schema_set.specs.Sourced.{AreSources};
 
-use crate::following::following;
+use crate::following::{following, own_number};
 use crate::sources::Sources;
 use std::alloc::{AllocError, Global};
 
@@ -25,17 +25,18 @@ fn mark(xs: &[u32], seen: &mut [bool], todo: &mut Vec<u32>) -> Result<(), AllocE
     Ok(())
 }
 
-// Marks all that the first document leads to.
-fn spread(sources: &Sources<'_>, seen: &mut [bool]) -> Result<(), AllocError>
+// Marks all that the document of this place leads to, with its own target namespace.
+fn spread(sources: &Sources<'_>, start: u32, seen: &mut [bool]) -> Result<(), AllocError>
     requires sources { AreSources sources.now }
+    requires place { start < length sources.now.available.now }
     requires len { length seen.old ≡ length sources.now.available.now * length sources.now.available.now }
-    requires some { 0 < length seen.old }
     requires none { (y : ℕ) → marked seen.old y ≡ false }
-    ensures reached { OnOk result ((y : ℕ) → (marked seen.new y ≡ true) ↔ Reaches sources.now.available.now y) }
+    ensures reached { OnOk result ((y : ℕ) → (marked seen.new y ≡ true) ↔ Reaches sources.now.available.now start y) }
 {
     let mut todo = Vec::new(sources.alloc);
-    todo.push(0)?;
-    seen[0] = true;
+    let first = own_number(sources, start + 1);
+    todo.push(first)?;
+    seen[first as usize] = true;
     while let Some(y) = todo.pop() {
         let next = following(sources, y)?;
         mark(&next, seen, &mut todo)?;
@@ -53,15 +54,16 @@ fn square(count: usize) -> usize
     count * count
 }
 
-// Which documents, with which target namespaces, the first document leads to.
-pub(crate) fn reach(sources: &Sources<'_>) -> Result<Vec<bool>, AllocError>
+// Which documents, with which target namespaces, the document of this place leads to.
+pub(crate) fn reach(sources: &Sources<'_>, start: u32) -> Result<Vec<bool>, AllocError>
     requires sources { AreSources sources.now }
+    requires place { start < length sources.now.available.now }
     ensures len { IfOk result (λ seen. vec_len seen ≡ length sources.now.available.now * length sources.now.available.now) }
-    ensures reached { IfOk result (λ seen. (y : ℕ) → (marked seen.items y ≡ true) ↔ Reaches sources.now.available.now y) }
+    ensures reached { IfOk result (λ seen. (y : ℕ) → (marked seen.items y ≡ true) ↔ Reaches sources.now.available.now start y) }
 {
     let count = sources.available.len();
     let all = square(count);
     let mut seen = Vec::from_elem(sources.alloc, false, all)?;
-    spread(sources, seen.as_mut_slice())?;
+    spread(sources, start, seen.as_mut_slice())?;
     Ok(seen)
 }

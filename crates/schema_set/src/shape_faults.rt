@@ -1,4 +1,4 @@
-ghost use Rattle.std.specs.Prelude.{◌≡◌, ◌-◌, ◌<◌, List, All, Contains, slice_get};
+ghost use Rattle.std.specs.Prelude.{◌≡◌, ◌-◌, ◌<◌, ℕ, List, All, Contains, slice_get};
 ghost use Rattle.xs_codes.specs.Least.{IsLeast};
 ghost use Rattle.schema_set.specs.Documents as spec;
 ghost use Rattle.schema_set.specs.inside.Reads as inside;
@@ -35,7 +35,7 @@ fn first_of(faults: &[Option<Fault>], set: &[SetDocument<'_>]) -> Option<Fault>
 /// The first constraint on its shape that a document of a set breaks: by document, element and the order of the codes.
 pub fn first_shape_fault(faults: &[Option<Fault>], set: &[SetDocument<'_>]) -> Option<Fault>
     requires numbers { All (λ d. 0 < d.number) set.now }
-    ensures least { (inputs : List SchemaInputData) → faults.now ≡ spec.shape_faults inputs → spec.IsSet inputs set.now → IsLeast (spec.IsShapeFault inputs) result }
+    ensures least { (inputs : List SchemaInputData) (start : ℕ) → faults.now ≡ spec.shape_faults inputs → spec.IsSet inputs start set.now → IsLeast (spec.IsShapeFault inputs start) result }
 {
     first_of(faults, set)
 }

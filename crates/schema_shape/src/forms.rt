@@ -6,7 +6,7 @@ use xs_lists::Listed;
 use xs_names::Text;
 
 /// A default or a fixed value, as it stands. It is read in the scope of its element.
-#[derive(Debug, Drop)]
+#[derive(Drop)]
 pub struct ValueForm {
     pub fixed: bool,
     pub text: Text,
@@ -14,7 +14,7 @@ pub struct ValueForm {
 
 /// What the schema element says of its document (Structures 3.15.2). A part is `None` where its attribute is not there,
 /// here and below.
-#[derive(Debug, Drop)]
+#[derive(Drop)]
 pub struct SchemaForm {
     /// The target namespace; `None` is the absent one.
     pub target: Option<Text>,
@@ -25,7 +25,7 @@ pub struct SchemaForm {
 }
 
 /// A declaration of an element, or a reference to one (Structures 3.3.2).
-#[derive(Debug, Drop)]
+#[derive(Drop)]
 pub struct ElementForm {
     /// Whether it stands at the top of a schema document or in a redefine.
     pub global: bool,
@@ -44,7 +44,7 @@ pub struct ElementForm {
 }
 
 /// How an attribute is used (Structures 3.2.2).
-#[derive(Debug, Clone, Copy, PartialEq, Eq)]
+#[derive(Clone, Copy)]
 pub enum Use {
     Optional,
     Prohibited,
@@ -52,7 +52,7 @@ pub enum Use {
 }
 
 /// A declaration of an attribute, or a reference to one (Structures 3.2.2).
-#[derive(Debug, Drop)]
+#[derive(Drop)]
 pub struct AttributeForm {
     /// Whether it stands at the top of a schema document.
     pub global: bool,
@@ -65,7 +65,7 @@ pub struct AttributeForm {
 }
 
 /// A complex type (Structures 3.4.2).
-#[derive(Debug, Drop)]
+#[derive(Drop)]
 pub struct ComplexTypeForm {
     pub name: Option<Text>,
     pub is_abstract: Option<bool>,
@@ -75,7 +75,7 @@ pub struct ComplexTypeForm {
 }
 
 /// How the members of a model group stand together (Structures 3.8.1).
-#[derive(Debug, Clone, Copy, PartialEq, Eq)]
+#[derive(Clone, Copy)]
 pub enum Compositor {
     All,
     Choice,
@@ -83,14 +83,14 @@ pub enum Compositor {
 }
 
 /// A wildcard (Structures 3.10.2).
-#[derive(Debug, Drop)]
+#[derive(Drop)]
 pub struct WildcardForm {
     pub spaces: Spaces,
     pub process: Process,
 }
 
 /// What an identity constraint asks (Structures 3.11.1).
-#[derive(Debug, Clone, Copy, PartialEq, Eq)]
+#[derive(Clone, Copy)]
 pub enum IdentityKind {
     Unique,
     Key,
@@ -98,7 +98,7 @@ pub enum IdentityKind {
 }
 
 /// What an element of a schema document declares.
-#[derive(Debug, Drop)]
+#[derive(Drop)]
 pub enum Form {
     Schema(SchemaForm),
     Include {
@@ -185,7 +185,7 @@ pub enum Form {
 
 /// What an element of a schema document declares, and where. Its scope is its own bindings and, behind them, the scope of the
 /// nearest element above that has bindings.
-#[derive(Debug, Drop)]
+#[derive(Drop)]
 pub struct Shape {
     /// The number of the element.
     pub item: u32,
@@ -202,13 +202,13 @@ pub struct Shape {
 pub type ShapeList = Listed<Shape>;
 
 /// What a schema document declares. The first shape is that of the schema element.
-#[derive(Debug, Drop)]
+#[derive(Drop)]
 pub struct ShapedSchema {
     pub shapes: ShapeList,
 }
 
 /// What the elements of a schema document declare, and the first constraint on its shape that it breaks, if it breaks one.
-#[derive(Debug, Drop)]
+#[derive(Drop)]
 pub struct Reading {
     pub schema: ShapedSchema,
     pub fault: Option<Fault>,

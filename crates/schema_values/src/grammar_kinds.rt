@@ -1,5 +1,5 @@
 /// The name of an element of a schema document; `Other` is every name that no schema element has.
-#[derive(Debug, Clone, Copy, PartialEq, Eq)]
+#[derive(Clone, Copy)]
 pub enum Tag {
     Schema,
     Include,
@@ -46,7 +46,7 @@ pub enum Tag {
 
 /// What an element of a schema document is, by its name and by what it stands in. `Document` is what the root stands in,
 /// `NoSchema` a root that is no schema, and `Ignored` what is below an annotation or a notation.
-#[derive(Debug, Clone, Copy, PartialEq, Eq)]
+#[derive(Clone, Copy)]
 pub enum Kind {
     Schema,
     Include,
@@ -106,7 +106,7 @@ pub enum Kind {
 }
 
 /// The name of an attribute of a schema element.
-#[derive(Debug, Clone, Copy, PartialEq, Eq)]
+#[derive(Clone, Copy)]
 pub enum AttributeName {
     Id,
     TargetNamespace,
@@ -142,7 +142,7 @@ pub enum AttributeName {
 }
 
 /// The kind of an attribute's value.
-#[derive(Debug, Clone, Copy, PartialEq, Eq)]
+#[derive(Clone, Copy)]
 pub enum ValueKind {
     /// A name without a colon.
     NcName,
@@ -185,7 +185,7 @@ pub enum ValueKind {
 }
 
 /// A class of child elements, of which one stands where another may.
-#[derive(Debug, Clone, Copy, PartialEq, Eq)]
+#[derive(Clone, Copy)]
 pub enum Class {
     Anything,
     Annotation,
@@ -211,7 +211,7 @@ pub enum Class {
 }
 
 /// An attribute that an element may have.
-#[derive(Debug, Clone, Copy, PartialEq, Eq)]
+#[derive(Clone, Copy)]
 pub struct Rule {
     pub name: AttributeName,
     pub kind: ValueKind,
@@ -219,7 +219,7 @@ pub struct Rule {
 }
 
 /// A step of a content: children of a class, at least one where it is required, more than one where it repeats.
-#[derive(Debug, Clone, Copy, PartialEq, Eq)]
+#[derive(Clone, Copy)]
 pub struct Step {
     pub class: Class,
     pub required: bool,

@@ -11,7 +11,7 @@ use xs_names::Text;
 pub const MAX_OCCURS: u64 = 1000;
 
 /// How often a particle may occur; `None` is unbounded. A bound past `MAX_OCCURS` counts as that and one.
-#[derive(Debug, Clone, Copy, PartialEq, Eq)]
+#[derive(Clone, Copy)]
 pub struct Occurs {
     pub min: u32,
     pub max: Option<u32>,

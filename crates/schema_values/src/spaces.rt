@@ -6,7 +6,7 @@ use xs_lists::Listed;
 use xs_names::{Text, items};
 
 /// A namespace in the list of a wildcard (Structures 3.10.2).
-#[derive(Debug, Drop)]
+#[derive(Drop)]
 pub enum SpaceToken {
     /// `##targetNamespace`
     Target,
@@ -17,7 +17,7 @@ pub enum SpaceToken {
 }
 
 /// The namespaces that a wildcard admits, as they are written (Structures 3.10.2).
-#[derive(Debug, Drop)]
+#[derive(Drop)]
 pub enum Spaces {
     /// `##any`
     Any,

@@ -3,3 +3,4 @@ pub mod Staying
 pub mod Growing
 mod Finding
 mod Upwards
+pub mod Bare

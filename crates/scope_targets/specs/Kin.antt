@@ -1,5 +1,5 @@
 -- Elements by their numbers, as identity constraints see them, and which of them are targets as they were (Structures 3.11.4).
-use Rattle.std.specs.Prelude.{◌≡◌, ℕ, Bool, true, false, List, [], ◌∷◌, Option, None, Some}
+use Rattle.std.specs.Prelude.{◌≡◌, ℕ, List, [], ◌∷◌, Option, None, Some}
 use Rattle.xs_components.specs.Tables.{Tables}
 use Rattle.identity_counts.specs.Counting.{Has}
 use Rattle.identity_constraints.specs.Seen.{KeyElement, KeyForest, none, element}
@@ -32,17 +32,17 @@ module _ (t : Tables) where
     pub name : one.name ≡ other.name
     pub constraints : constraints_of t one ≡ constraints_of t other
 
-  -- What an edit leaves as it was. Of an element that it does not touch, that is itself and its child elements, none of which it touches; and
-  -- the elements above are steady. A steady element is the same as a scope and on ways, and so are those above it.
-  pub record Leaves (old new : Kin) (touched steady : ℕ → Bool) : Type 0 where
-    pub own : (n : ℕ) → touched n ≡ false → new.seen n ≡ old.seen n
-    pub children : (n : ℕ) → touched n ≡ false → new.children n ≡ old.children n
-    pub below : (n c : ℕ) → touched n ≡ false → Has c (old.children n) → touched c ≡ false
-    pub parent : (n : ℕ) → touched n ≡ false → new.parent n ≡ old.parent n
-    pub above : (n p : ℕ) → touched n ≡ false → old.parent n ≡ Some p → steady p ≡ true
-    pub same : (n : ℕ) → steady n ≡ true → IsSameScope (new.seen n) (old.seen n)
-    pub steady_parent : (n : ℕ) → steady n ≡ true → new.parent n ≡ old.parent n
-    pub steady_above : (n p : ℕ) → steady n ≡ true → old.parent n ≡ Some p → steady p ≡ true
+  -- What an edit leaves as it was. An element that it leaves free is itself as it was, and so are its child elements, all of which are free;
+  -- and the elements above it are steady. A steady element is the same as a scope and on ways, and so are those above it.
+  pub record Leaves (old new : Kin) (free steady : ℕ → Type 0) : Type 0 where
+    pub own : (n : ℕ) → free n → new.seen n ≡ old.seen n
+    pub children : (n : ℕ) → free n → new.children n ≡ old.children n
+    pub below : (n c : ℕ) → free n → Has c (old.children n) → free c
+    pub parent : (n : ℕ) → free n → new.parent n ≡ old.parent n
+    pub above : (n p : ℕ) → free n → old.parent n ≡ Some p → steady p
+    pub same : (n : ℕ) → steady n → IsSameScope (new.seen n) (old.seen n)
+    pub steady_parent : (n : ℕ) → steady n → new.parent n ≡ old.parent n
+    pub steady_above : (n p : ℕ) → steady n → old.parent n ≡ Some p → steady p
 
 -- by both, what is below an element and the elements above it
 pub record AreAround (old new : Kin) (n : ℕ) (below new_below : KeyForest) (above new_above : List KeyElement) : Type 0 where

@@ -22,7 +22,7 @@ use tree_rows::NodeKind;
 use xsv_steps::{Ledger, Steps};
 
 /// Why a session did not make an edit.
-#[derive(Clone, Copy, Debug, PartialEq, Eq)]
+#[derive(Clone, Copy, PartialEq)]
 pub enum SessionError {
     /// The edit is refused, and nothing has changed.
     Refused(EditError),

@@ -8,7 +8,7 @@ ghost use Rattle.schema_compile.specs.Outcomes.{IsOutcome};
 use compiled_schema::Compiled;
 use item_listing::{Items, read_item};
 use plain_tree::{Tree, read_tree};
-use schema_compile::{Outcome, compile};
+use schema_compile::{Outcome, compile_from};
 use schema_set::SchemaInput;
 use session_model::Session;
 use std::alloc::{AllocError, Global};
@@ -70,13 +70,13 @@ fn outcome_of<A: Abort>(
     alloc: Global,
     documents: &[SchemaInput],
 ) -> Result<Outcome, AllocError>
-    ensures { IfOk result (IsOutcome documents.now) }
+    ensures { IfOk result (IsOutcome documents.now 0) }
 {
     if documents.is_empty() {
         panic!(rt; "no schema document");
     }
     are_whole(documents);
-    compile(alloc, documents)
+    compile_from(alloc, documents, 0)
 }
 
 // The set that some schema documents come to.

@@ -60,20 +60,20 @@ module _ (a b : List SetDocument) (xs ys : List (Option ℕ)) (same : map bare a
         attr_groups = pairs.1;
       }
 
-module _ (inputs : List SchemaInput) where
-  first : HasOne (IsFirstOfPhases (phases inputs))
-  first = first-one (phases inputs) (each-one inputs)
+module _ (inputs : List SchemaInput) (start : ℕ) where
+  first : HasOne (IsFirstOfPhases (phases inputs start))
+  first = first-one (phases inputs start) (each-one inputs start)
 
   -- a set that is compiled has no fault
-  made-or-broken : (made : CompiledSet) (fault : Fault) → IsCompilation inputs (Ok made) → IsCompilation inputs (Err fault) → ⊥
+  made-or-broken : (made : CompiledSet) (fault : Fault) → IsCompilation inputs start (Ok made) → IsCompilation inputs start (Err fault) → ⊥
   made-or-broken made fault p q = none-some fault (first None (Some fault) p.0 q)
 
-  sets-made-same : (made other : CompiledSet) → IsCompilation inputs (Ok made) → IsCompilation inputs (Ok other) → IsSameMade made other
+  sets-made-same : (made other : CompiledSet) → IsCompilation inputs start (Ok made) → IsCompilation inputs start (Ok other) → IsSameMade made other
   sets-made-same made other (none, a, xs, set_a, orig_a, p) (none', b, ys, set_b, orig_b, q) =
-      let same = sets-bare inputs a b set_a set_b in
+      let same = sets-bare inputs start a b set_a set_b in
       made-same a b xs ys same (set-originals-same (available inputs) a b xs ys same orig_a orig_b) made other p q
 
-  pub compilations-same : (x y : Result CompiledSet Fault) → IsCompilation inputs x → IsCompilation inputs y → IsSameCompilation x y
+  pub compilations-same : (x y : Result CompiledSet Fault) → IsCompilation inputs start x → IsCompilation inputs start y → IsSameCompilation x y
   compilations-same (Ok made) (Ok other) p q = sets-made-same made other p q
   compilations-same (Ok made) (Err g) p q = absurd (made-or-broken made g p q)
   compilations-same (Err f) (Ok other) p q = absurd (made-or-broken other f q p)

@@ -119,46 +119,46 @@ in-names set originals f g p q =
     let t = set_table no_names set in
     least-one (IsNameFault t set originals) 3 (name-three (all_names t set originals) (origins t set) (versions t set originals) originals) f g p q
 
-module _ (inputs : List SchemaInput) where
-  pub shapes-one : HasOne (shape_phase inputs)
+module _ (inputs : List SchemaInput) (start : ℕ) where
+  pub shapes-one : HasOne (shape_phase inputs start)
   unfolding shape_phase
-  shapes-one a b p q = least-one (IsShapeFault inputs) 1 (shape-one inputs) a b p q
+  shapes-one a b p q = least-one (IsShapeFault inputs start) 1 (shape-one inputs start) a b p q
 
-  pub compositions-one : HasOne (composition_phase inputs)
+  pub compositions-one : HasOne (composition_phase inputs start)
   unfolding composition_phase
-  compositions-one a b p q = least-one (BreaksComposition (available inputs)) 2 (composition-two (available inputs)) a b p q
+  compositions-one a b p q = least-one (BreaksComposition (available inputs) start) 2 (composition-two (available inputs) start) a b p q
 
   -- the sets and the originals of two answers are the same
-  pub sets-bare : (a b : List SetDocument) → IsSet inputs a → IsSet inputs b → map bare a ≡ map bare b
-  sets-bare a b p q = bare-same a b (sets-same inputs a b p q)
+  pub sets-bare : (a b : List SetDocument) → IsSet inputs start a → IsSet inputs start b → map bare a ≡ map bare b
+  sets-bare a b p q = bare-same a b (sets-same inputs start a b p q)
 
   module _ (phase : List SetDocument → List (Option ℕ) → Option Fault → Type 0)
       (one : (set : List SetDocument) (originals : List (Option ℕ)) → HasOne (phase set originals))
       (kept : (a b : List SetDocument) (xs ys : List (Option ℕ)) → map bare a ≡ map bare b → xs ≡ ys → (found : Option Fault) → phase a xs found → phase b ys found) where
-    by-set-one : HasOne (by_set inputs phase)
+    by-set-one : HasOne (by_set inputs start phase)
     by-set-one f g (a, xs, set_a, orig_a, p) (b, ys, set_b, orig_b, q) =
         let same = sets-bare a b set_a set_b in
         let originals = set-originals-same (available inputs) a b xs ys same orig_a orig_b in
         one b ys f g (kept a b xs ys same originals f p) q
 
-  pub names-one : HasOne (by_set inputs name_phase)
+  pub names-one : HasOne (by_set inputs start name_phase)
   names-one = by-set-one name_phase in-names (λ a b xs ys same originals found p. transport (names-broken-same a b xs ys same originals found) p)
 
   module _ (phase : Tables → Option Fault → Type 0) (one : (parts : Tables) → HasOne (phase parts)) where
-    by-components-one : HasOne (by_set inputs (λ set originals. by_components set originals phase))
+    by-components-one : HasOne (by_set inputs start (λ set originals. by_components set originals phase))
     by-components-one =
         by-set-one (λ set originals. by_components set originals phase)
         (λ set originals f g p q. one q.0 f g (subst (λ (t : Tables). phase t f) (parts-one set originals p.0 q.0 p.1 q.1) p.2) q.2)
         (λ a b xs ys same originals found p. (p.0, transport (parts-same-set a b xs ys same originals p.0) p.1, p.2))
 
-  pub bases-one : HasOne (by_set inputs (λ set originals. by_components set originals base_phase))
+  pub bases-one : HasOne (by_set inputs start (λ set originals. by_components set originals base_phase))
   bases-one = by-components-one base_phase (λ parts f g p q. least-one (IsBroken parts) 4 (base-four parts) f g p q)
 
-  pub simples-one : HasOne (by_set inputs (λ set originals. by_components set originals type_phase))
+  pub simples-one : HasOne (by_set inputs start (λ set originals. by_components set originals type_phase))
   simples-one = by-components-one type_phase types-one
 
-  pub later-one : EachHasOne (later_phases inputs)
+  pub later-one : EachHasOne (later_phases inputs start)
   later-one = (compositions-one, (names-one, (bases-one, (simples-one, tt))))
 
-  pub each-one : EachHasOne (phases inputs)
+  pub each-one : EachHasOne (phases inputs start)
   each-one = (shapes-one, later-one)

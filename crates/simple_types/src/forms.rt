@@ -196,7 +196,7 @@ fn union_facets(
         union = with_member(alloc, table, union, member)?;
     }
     Ok(TypeFacets {
-        facets: Facets::union_of(alloc, union.all),
+        facets: Facets::union_of(alloc, union.all)?,
         known: union.known,
     })
 }

@@ -7,14 +7,14 @@ use std::alloc::{AllocError, Global};
 use xs_codes::{Builtin, Fault};
 
 /// The facets in force for a type, and what is known of it.
-#[derive(Debug, Drop)]
+#[derive(Drop)]
 pub struct TypeFacets {
     pub facets: Facets,
     pub known: Known,
 }
 
 /// What judging a type comes to: what is in force for it, and the first fault of its own.
-#[derive(Debug, Drop)]
+#[derive(Drop)]
 pub struct JudgedType {
     pub of: TypeFacets,
     pub fault: Option<Fault>,

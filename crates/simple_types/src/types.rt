@@ -21,7 +21,7 @@ use xs_lists::Listed;
 use xs_names::Scope;
 
 /// The simple types of a set and the simple contents of its complex types, ready to judge texts.
-#[derive(Debug, Drop)]
+#[derive(Drop)]
 pub struct SimpleTypes {
     simples: Listed<JudgedType>,
     complexes: Listed<JudgedType>,
@@ -67,19 +67,19 @@ impl SimpleTypes {
         match of {
             TypeId::AnyType => Ok(Err(Code::CvcDatatypeValid1)),
             TypeId::Builtin(kind) => {
-                let mut facets = Facets::of_builtin(alloc, kind);
-                value_by(alloc, &mut facets, text, scope)
+                let facets = Facets::of_builtin(alloc, kind);
+                value_by(alloc, &facets, text, scope)
             }
             TypeId::Simple(id) => value_in(
                 alloc,
-                self.simples.as_mut_slice(),
+                self.simples.as_slice(),
                 id.number(),
                 text,
                 scope,
             ),
             TypeId::Complex(id) => value_in(
                 alloc,
-                self.complexes.as_mut_slice(),
+                self.complexes.as_slice(),
                 id.number(),
                 text,
                 scope,
@@ -91,16 +91,15 @@ impl SimpleTypes {
 // The value of a text by the type of a number.
 fn value_in(
     alloc: Global,
-    table: &mut [JudgedType],
+    table: &[JudgedType],
     number: u32,
     text: &str,
     scope: &Scope,
 ) -> Result<Result<Value, Code>, AllocError>
-    ensures value { (tree : TypeTree) → inside.IsMadeAt tree table.old number → IfOk result (λ outcome. spec.IsValueOf tree scope.now text.now outcome) }
-    ensures same { table.new ≡ table.old }
+    ensures { (tree : TypeTree) → inside.IsMadeAt tree table.now number → IfOk result (λ outcome. spec.IsValueOf tree scope.now text.now outcome) }
 {
     if (number as usize) < table.len() {
-        value_of_type(alloc, &mut table[number as usize], text, scope)
+        value_of_type(alloc, &table[number as usize], text, scope)
     } else {
         Ok(Err(Code::CvcDatatypeValid1))
     }
@@ -108,25 +107,23 @@ fn value_in(
 
 fn value_of_type(
     alloc: Global,
-    judged: &mut JudgedType,
+    judged: &JudgedType,
     text: &str,
     scope: &Scope,
 ) -> Result<Result<Value, Code>, AllocError>
-    ensures value { (tree : TypeTree) → IsMade tree judged.old.of.facets → IfOk result (λ outcome. spec.IsValueOf tree scope.now text.now outcome) }
-    ensures same { judged.new ≡ judged.old }
+    ensures { (tree : TypeTree) → IsMade tree judged.now.of.facets → IfOk result (λ outcome. spec.IsValueOf tree scope.now text.now outcome) }
 {
-    value_by(alloc, &mut judged.of.facets, text, scope)
+    value_by(alloc, &judged.of.facets, text, scope)
 }
 
 // The value of a text by the type that has these facets.
 fn value_by(
     alloc: Global,
-    facets: &mut Facets,
+    facets: &Facets,
     text: &str,
     scope: &Scope,
 ) -> Result<Result<Value, Code>, AllocError>
-    ensures value { (tree : TypeTree) → IsMade tree facets.old → IfOk result (λ outcome. spec.IsValueOf tree scope.now text.now outcome) }
-    ensures same { facets.new ≡ facets.old }
+    ensures { (tree : TypeTree) → IsMade tree facets.now → IfOk result (λ outcome. spec.IsValueOf tree scope.now text.now outcome) }
 {
     let outcome = validated(alloc, facets, text, scope)?;
     Ok(value_of(outcome))

@@ -1,5 +1,5 @@
 //! What a text comes to by a simple type.
-ghost use Rattle.std.specs.Prelude.{◌≡◌, IfOk};
+ghost use Rattle.std.specs.Prelude.{IfOk};
 ghost use Rattle.simple_types.specs.TypeTree.{TypeTree};
 ghost use Rattle.simple_types.specs.SimpleValidity.{IsMade, IsValid};
 
@@ -12,12 +12,11 @@ use xs_names::Scope;
 /// why it is none (Structures 3.14.4).
 pub fn validated(
     alloc: Global,
-    facets: &mut Facets,
+    facets: &Facets,
     text: &str,
     scope: &Scope,
 ) -> Result<Result<Accepted, Code>, AllocError>
-    ensures valid { (tree : TypeTree) → IsMade tree facets.old → IfOk result (λ outcome. IsValid tree scope.now text.now outcome) }
-    ensures same { facets.new ≡ facets.old }
+    ensures { (tree : TypeTree) → IsMade tree facets.now → IfOk result (λ outcome. IsValid tree scope.now text.now outcome) }
 {
     facets.read(alloc, text, scope)
 }

@@ -9,7 +9,7 @@ use xs_names::NsId;
 
 /// A value of an atomic type. Each primitive type has its own variant, or its own kind of moment, so that values of
 /// different primitive types differ (Datatypes 2.2 and 3.2).
-#[derive(Debug, Drop, PartialEq, Eq, Hash)]
+#[derive(Drop, PartialEq, Eq, Hash)]
 pub enum Atom {
     /// `anySimpleType`: a text whose meaning is open, unlike any `string`.
     Untyped(Characters),
@@ -58,7 +58,7 @@ impl Clone for Atom {
 
 /// A value of `QName`: a namespace by its number in the `Names` that the scope was made over, and a local name
 /// (Datatypes 3.2.18).
-#[derive(Debug, Drop, PartialEq, Eq, Hash)]
+#[derive(Drop, PartialEq, Eq, Hash)]
 pub struct ExpandedName {
     pub namespace: NsId,
     pub local: Characters,

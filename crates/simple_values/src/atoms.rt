@@ -8,7 +8,7 @@ use xs_codes::Builtin;
 use xs_lists::Listed;
 
 /// An atom, and the built-in type that accepted it, or the nearest one that the accepting type is derived from.
-#[derive(Debug, Drop)]
+#[derive(Drop)]
 pub struct TypedAtom {
     pub builtin: Builtin,
     pub atom: Atom,
@@ -27,7 +27,7 @@ impl Clone for TypedAtom {
 }
 
 /// The items of a list value, at most 4,294,967,295. Contracts see the list of them.
-#[derive(Debug, Drop)]
+#[derive(Drop)]
 pub struct Atoms {
     inner: Listed<TypedAtom>,
 }

@@ -8,7 +8,7 @@ use xs_codes::Builtin;
 
 /// The least and the greatest value of a type, its facets `minInclusive` and `maxInclusive` (Datatypes 4.3.7 and 4.3.10);
 /// an end that is missing is open.
-#[derive(Debug, Clone, Copy, PartialEq, Eq)]
+#[derive(Clone, Copy)]
 pub struct Bounds {
     pub least: Option<Dec>,
     pub greatest: Option<Dec>,

@@ -11,7 +11,7 @@ use std::marker::Model;
 /// A string of characters (Datatypes 3.2.1), of at most 4,294,967,295 bytes in UTF-8.
 ///
 /// Contracts see the bytes, as they see those of a `&str`.
-#[derive(Debug, Drop)]
+#[derive(Drop)]
 pub struct Characters {
     inner: String,
 }

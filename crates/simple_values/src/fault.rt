@@ -1,7 +1,7 @@
 //! Why a text has no value.
 
 /// Why a text has no value of a built-in type.
-#[derive(Debug, Clone, Copy, PartialEq, Eq, Hash)]
+#[derive(Clone, Copy)]
 pub enum ValueFault {
     /// It is no literal of the type.
     NotLexical,

@@ -7,7 +7,7 @@ use xs_codes::Builtin;
 use xs_names::WhiteSpace;
 
 /// The literals of an atomic type, or of the items of a list type.
-#[derive(Debug, Clone, Copy, PartialEq, Eq)]
+#[derive(Clone, Copy)]
 pub enum Grammar {
     /// Every text, as a value of `anySimpleType`.
     Untyped,

@@ -9,7 +9,7 @@ use xs_lists::Listed;
 
 /// What a value is, whatever type accepted it. Two values are the same exactly where their keys are equal, and a key may
 /// be one of a hashed map.
-#[derive(Debug, Drop, PartialEq, Eq, Hash)]
+#[derive(Drop, PartialEq, Eq, Hash)]
 pub enum Key {
     /// That of an atom.
     Atom(Atom),
@@ -38,7 +38,7 @@ pub fn same_key(a: &Key, b: &Key) -> bool
 }
 
 /// The items of a list's key.
-#[derive(Debug, Drop)]
+#[derive(Drop)]
 pub struct KeyItems {
     inner: Listed<Atom>,
 }

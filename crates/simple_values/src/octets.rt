@@ -10,7 +10,7 @@ use std::marker::Model;
 /// A string of octets (Datatypes 3.2.15 and 3.2.16), at most 4,294,967,295.
 ///
 /// Contracts see the list of them.
-#[derive(Debug, Drop)]
+#[derive(Drop)]
 pub struct Octets {
     inner: Vec<u8>,
 }

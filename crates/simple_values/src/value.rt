@@ -9,7 +9,7 @@ use std::cmp::Ordering;
 use xs_codes::Builtin;
 
 /// A value of a simple type.
-#[derive(Debug, Drop)]
+#[derive(Drop)]
 pub enum Value {
     /// An atom, and the built-in type that accepted it, or the nearest one that the accepting type is derived from.
     Atom { builtin: Builtin, atom: Atom },

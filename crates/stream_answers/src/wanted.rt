@@ -1,7 +1,7 @@
 use stream_sections::Asked;
 
 /// What a stream is read for.
-#[derive(Clone, Copy, Debug, PartialEq, Eq)]
+#[derive(Clone, Copy)]
 pub struct Wanted {
     /// Which says what sections the stream has.
     pub asked: Asked,

@@ -1,5 +1,5 @@
 /// What a stream is read for, which says what sections it has.
-#[derive(Clone, Copy, Debug, PartialEq, Eq)]
+#[derive(Clone, Copy)]
 pub enum Asked {
     /// Whether the schema is accepted: schema sections alone.
     Check,

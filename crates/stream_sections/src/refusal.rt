@@ -4,7 +4,7 @@ use item_listing::Reason;
 use tree_building::{TreeFault, TreeReason};
 
 /// Why a line of a stream is refused.
-#[derive(Clone, Copy, Debug, PartialEq, Eq)]
+#[derive(Clone, Copy)]
 pub enum Refusal {
     /// By its text, or by its place among the bytes.
     Line(Reason),
@@ -17,7 +17,7 @@ pub enum Refusal {
 }
 
 /// A line that is refused, by its number from 1.
-#[derive(Clone, Copy, Debug, PartialEq, Eq)]
+#[derive(Clone, Copy)]
 pub struct RefusedLine {
     pub line: u64,
     pub refusal: Refusal,

@@ -2,7 +2,7 @@ ghost use Rattle.std.specs.Prelude.{◌≡◌};
 ghost use Rattle.tag_names.specs.Resolving as resolving;
 
 /// Why the names of a start tag are refused, in the order in which the reasons are tried.
-#[derive(Clone, Copy, Debug, PartialEq, Eq)]
+#[derive(Clone, Copy)]
 pub enum NameReason {
     /// A name is no QName.
     BadName,
@@ -17,7 +17,7 @@ pub enum NameReason {
 }
 
 /// What stands against the names of a start tag.
-#[derive(Clone, Copy, Debug)]
+#[derive(Clone, Copy)]
 pub struct TagFaults {
     /// A name is no QName (Namespaces in XML 1.0, 4).
     pub bad: bool,

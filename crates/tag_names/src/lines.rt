@@ -2,7 +2,7 @@ use xs_lists::Listed;
 use xs_names::Text;
 
 /// An attribute line, with the name and the value as they are written.
-#[derive(Debug, Drop)]
+#[derive(Drop)]
 pub struct AttributeLine {
     pub name: Text,
     pub value: Text,
@@ -12,7 +12,7 @@ pub struct AttributeLine {
 pub type AttributeLines = Listed<AttributeLine>;
 
 /// A start line with its attribute lines, as they are written.
-#[derive(Debug, Drop)]
+#[derive(Drop)]
 pub struct Tag {
     pub name: Text,
     pub attributes: AttributeLines,

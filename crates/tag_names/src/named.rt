@@ -13,7 +13,7 @@ use tree_rows::{Attribute, Attributes, Binding, Bindings, Expanded};
 use xs_names::TextPool;
 
 /// What a tag says of its element.
-#[derive(Debug, Drop)]
+#[derive(Drop)]
 pub struct Named {
     /// The expanded name.
     pub name: Expanded,

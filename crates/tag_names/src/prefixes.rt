@@ -44,7 +44,7 @@ fn restore(latest: &mut IndexMap<String, usize>, prefix: &str, hidden: Option<us
 }
 
 /// A binding, with the place of the binding of the same prefix that it hides.
-#[derive(Debug, Drop)]
+#[derive(Drop)]
 struct Entry {
     binding: Binding,
     hidden: Option<usize>,
@@ -69,7 +69,7 @@ fn latest_among<'a>(entries: &'a [Entry], prefix: &str) -> Option<&'a Text>
 /// The empty prefix stands for the default namespace. Before an element's bindings `len` tells where its scope began, and
 /// after the element `truncate` goes back there. A prefix is looked up in a time that does not grow with the bindings
 /// (expected, by hashing).
-#[derive(Debug, Drop)]
+#[derive(Drop)]
 pub struct Prefixes {
     alloc: Global,
     /// The bindings in the order of coming.

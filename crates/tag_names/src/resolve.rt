@@ -13,7 +13,7 @@ use tree_rows::{Attribute, Attributes, Binding, Bindings, Expanded, MAX_ATTRIBUT
 use xs_names::{TextPool, XML_NAMESPACE, XMLNS_NAMESPACE};
 
 /// What a tag says of its element, and what stands against its names.
-#[derive(Debug, Drop)]
+#[derive(Drop)]
 pub struct JudgedTag {
     pub named: Named,
     pub faults: TagFaults,

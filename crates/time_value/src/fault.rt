@@ -1,7 +1,7 @@
 //! Why a text has no value.
 
 /// Why a text is no literal, or one past the limits.
-#[derive(Clone, Copy, Debug, PartialEq, Eq, Hash)]
+#[derive(Clone, Copy, Debug)]
 pub enum TimeFault {
     /// The text is no literal, whatever days its month has.
     NotLexical,

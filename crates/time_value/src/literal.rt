@@ -9,7 +9,7 @@ use crate::digits::{after, digits_at, fraction_at, minus_at, two_digits, year_nu
 use jiff_core::civil::is_leap_year;
 
 /// The types whose values are moments (Datatypes 3.2.7 to 3.2.14).
-#[derive(Clone, Copy, Debug, PartialEq, Eq, Hash)]
+#[derive(Clone, Copy, PartialEq, Eq, Hash)]
 pub enum MomentKind {
     /// `dateTime`, as `1999-10-20T13:20:00Z`.
     DateTime,

@@ -18,7 +18,7 @@ use std::marker::Model;
 ///
 /// Contracts see a `MomentValue`: whether there is a zone, and the nanoseconds from
 /// 1970-01-01T00:00:00Z, where a moment without a zone is read as in UTC.
-#[derive(Clone, Copy, Debug, PartialEq, Eq, Hash)]
+#[derive(Clone, Copy, PartialEq, Eq, Hash)]
 pub struct Moment {
     zoned: bool,
     nanoseconds: i128,

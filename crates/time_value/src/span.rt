@@ -15,7 +15,7 @@ use std::marker::Model;
 /// A duration: a number of months and a number of nanoseconds, both of one sign.
 ///
 /// Contracts see a `SpanValue`, which has the two numbers.
-#[derive(Clone, Copy, Debug, PartialEq, Eq, Hash)]
+#[derive(Clone, Copy, PartialEq, Eq, Hash)]
 pub struct Span {
     months: i32,
     nanoseconds: i128,

@@ -26,10 +26,9 @@ abbrev pub told_of : Outcome → SetOutcome
 told_of (outcomes.Accepted set) = accepted (set_of set)
 told_of (outcomes.Broken fault) = broken fault
 
--- The documents come to this. So far a set starts at the first of them, and is read by the rules of XML Schema 1.0.
+-- The documents come to this. So far a set is read by the rules of XML Schema 1.0.
 pub record IsOutcomeOf (question : Question) (o : SetOutcome) : Type 0 where
-  pub first : question.start ≡ 0
   pub rules_are : question.rules ≡ V10
   pub outcome : Outcome
-  pub is_outcome : IsOutcome question.documents outcome
+  pub is_outcome : IsOutcome question.documents question.start outcome
   pub told_is : o ≡ told_of outcome

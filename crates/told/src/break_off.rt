@@ -2,7 +2,7 @@ use std::alloc::AllocError;
 use xsv_io::Failed;
 
 /// Why an answer was broken off.
-#[derive(Clone, Copy, Debug, PartialEq, Eq)]
+#[derive(Clone, Copy)]
 pub enum BreakOff {
     /// Memory was wanting. Nothing of the answer was written.
     Memory,

@@ -1,5 +1,5 @@
 /// How a stream ended.
-#[derive(Clone, Copy, Debug, PartialEq, Eq)]
+#[derive(Clone, Copy)]
 pub enum Ending {
     /// The schema is accepted, and the root is valid where a document was asked for.
     Valid,

@@ -10,7 +10,7 @@ use xs_lists::Listed;
 use xs_names::NameId;
 
 /// What is found out about an element, under its number.
-#[derive(Debug, Drop)]
+#[derive(Drop)]
 pub struct ElementEntry {
     pub number: u32,
     /// The number of the element that bears the IDs of its text: its parent, or the element itself where it is the root
@@ -38,7 +38,7 @@ impl ElementEntry {
 }
 
 /// What of an element enters its parent's record.
-#[derive(Clone, Copy, Debug, PartialEq, Eq)]
+#[derive(Clone, Copy)]
 pub(crate) struct ChildOutcome {
     pub validity: Validity,
     pub attempted: Attempted,

@@ -16,7 +16,7 @@ use xs_lists::Listed;
 pub type Rows = Listed<Row>;
 
 /// The nodes of a tree.
-#[derive(Debug, Drop)]
+#[derive(Drop)]
 pub struct Built {
     /// The nodes in document order.
     pub rows: Rows,

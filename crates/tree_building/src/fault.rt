@@ -5,7 +5,7 @@ use std::alloc::{AllocError, AllocFailed};
 use tag_names::NameReason;
 
 /// Why items are no tree.
-#[derive(Clone, Copy, Debug, PartialEq, Eq)]
+#[derive(Clone, Copy)]
 pub enum TreeReason {
     /// A second element without a parent starts.
     TwoRoots,
@@ -28,7 +28,7 @@ pub enum TreeReason {
 }
 
 /// The first reason why items are no tree.
-#[derive(Clone, Copy, Debug, PartialEq, Eq)]
+#[derive(Clone, Copy)]
 pub struct TreeFault {
     /// The number of the item, counted from 0, at which the reason stands; the number of items where it stands at
     /// their end.
@@ -37,7 +37,7 @@ pub struct TreeFault {
 }
 
 /// Why a step was not made.
-#[derive(Clone, Copy, Debug)]
+#[derive(Clone, Copy)]
 pub enum Stop {
     Memory,
     Refused(TreeFault),

@@ -10,7 +10,7 @@ use tree_rows::Binding;
 use xs_names::{Text, TextPool};
 
 /// An open element: its name as it is written, and how many bindings there were before its own.
-#[derive(Debug, Drop)]
+#[derive(Drop)]
 struct Mark {
     name: Text,
     before: usize,

@@ -6,14 +6,14 @@ use tag_names::Tag;
 use xs_names::Text;
 
 /// The characters of one item, which are shared with it, or those of more items one after another.
-#[derive(Debug, Drop)]
+#[derive(Drop)]
 enum Pieces {
     One(Text),
     More(String),
 }
 
 /// Characters that came one after another. Contracts see their bytes in UTF-8.
-#[derive(Debug, Drop)]
+#[derive(Drop)]
 pub struct Joined {
     inner: Pieces,
 }
@@ -66,7 +66,7 @@ impl Joined {
 }
 
 /// What came last and is no node yet.
-#[derive(Debug, Drop)]
+#[derive(Drop)]
 pub enum Pending {
     Nothing,
     /// A start tag that may still get attribute lines, with the number of its item.

@@ -4,7 +4,7 @@ ghost use Rattle.tree_building.specs.Rules as rules;
 use tree_rows::{MAX_DEPTH, MAX_NODES};
 
 /// What is asked of items that are to be a tree.
-#[derive(Clone, Copy, Debug, PartialEq, Eq)]
+#[derive(Clone, Copy)]
 pub struct Rules {
     /// The greatest depth of an element, where there is a limit; the root has depth 1.
     pub levels: Option<u32>,

@@ -9,7 +9,7 @@ use xs_names::Text;
 
 /// A change of a tree. Nodes are named by their numbers, and a place among the children of an element
 /// counts elements and texts from 0.
-#[derive(Debug, Drop)]
+#[derive(Drop)]
 pub enum Edit {
     /// Puts the one element that the items are before the child of this place. Its names resolve in the scope of the
     /// parent and by the bindings of the block.
@@ -53,7 +53,7 @@ pub enum Edit {
 }
 
 /// Why a tree was not changed.
-#[derive(Clone, Copy, Debug, PartialEq, Eq)]
+#[derive(Clone, Copy, PartialEq)]
 pub enum EditError {
     /// The number is of no node of the tree.
     UnknownNode,

@@ -12,7 +12,7 @@ use tag_names::{AttributeLine, AttributeLines, JudgedTag, Prefixes, Tag, TagFaul
 use xs_names::{Text, TextPool};
 
 /// What stands against the names of a block: each of the faults that some of its tags has.
-#[derive(Clone, Copy, Debug)]
+#[derive(Clone, Copy)]
 pub struct BlockNames {
     /// A name is no QName.
     pub bad: bool,
@@ -92,7 +92,7 @@ fn lines_of(alloc: Global, items: &[Item]) -> Result<AttributeLines, AllocError>
 }
 
 /// What a block is found to be before it is built.
-#[derive(Clone, Copy, Debug)]
+#[derive(Clone, Copy)]
 pub struct JudgedBlock {
     /// What stands against its names.
     pub names: BlockNames,

@@ -6,7 +6,7 @@ use std::alloc::AllocError;
 use xs_names::Text;
 
 /// How many nodes the items of a block have begun, and the depth of the deepest element, while the items come.
-#[derive(Clone, Copy, Debug)]
+#[derive(Clone, Copy)]
 pub struct BlockSize {
     pub nodes: usize,
     pub depth: usize,

@@ -7,7 +7,7 @@ use std::alloc::{AllocError, Global};
 use std::marker::Model;
 
 /// The rows of a tree, and of each how many are below it. Contracts see the tree's forest.
-#[derive(Debug, Drop)]
+#[derive(Drop)]
 pub struct TreeIndex<'a> {
     rows: &'a [Row],
     below: Vec<usize>,

@@ -7,7 +7,7 @@ use xs_names::Text;
 
 /// An expanded name: the name of a namespace, `None` for the absent one, with a local part
 /// (Namespaces in XML 1.0, 2.1).
-#[derive(Debug, Drop)]
+#[derive(Drop)]
 pub struct Expanded {
     pub namespace: Option<Text>,
     pub local: Text,

@@ -3,7 +3,7 @@ use xs_lists::Listed;
 use xs_names::Text;
 
 /// An attribute that is no binding.
-#[derive(Debug, Drop)]
+#[derive(Drop)]
 pub struct Attribute {
     pub name: Expanded,
     pub value: Text,
@@ -11,7 +11,7 @@ pub struct Attribute {
 
 /// The binding of a prefix to a namespace. The empty prefix stands for the default namespace, and the empty
 /// namespace for the absent one (Namespaces in XML 1.0, 3 and 6.2).
-#[derive(Debug, Drop)]
+#[derive(Drop)]
 pub struct Binding {
     pub prefix: Text,
     pub namespace: Text,
@@ -24,7 +24,7 @@ pub type Attributes = Listed<Attribute>;
 pub type Bindings = Listed<Binding>;
 
 /// What a node is.
-#[derive(Debug, Drop)]
+#[derive(Drop)]
 pub enum Content {
     /// An element, by its name.
     Element(Expanded),
@@ -33,14 +33,14 @@ pub enum Content {
 }
 
 /// Whether a node is an element or a text.
-#[derive(Clone, Copy, Debug, PartialEq, Eq)]
+#[derive(Clone, Copy, PartialEq)]
 pub enum NodeKind {
     Element,
     Chars,
 }
 
 /// A node of a tree, as it stands in document order.
-#[derive(Debug, Drop)]
+#[derive(Drop)]
 pub struct Row {
     /// The node's number, from 1.
     pub number: u32,

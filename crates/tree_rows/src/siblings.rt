@@ -7,7 +7,7 @@ use crate::Row;
 use std::marker::Model;
 
 /// Siblings of a tree, from one of them on, with all that is below them. Contracts see a forest.
-#[derive(Debug, Drop)]
+#[derive(Drop)]
 pub struct Siblings<'a> {
     /// Their rows and those below them.
     pub(crate) rows: &'a [Row],
@@ -32,7 +32,7 @@ impl<'a> Model for Siblings<'a> {
 }
 
 /// A node, with its children and its next siblings.
-#[derive(Debug, Drop)]
+#[derive(Drop)]
 pub struct Sibling<'a> {
     /// What the node is: its number, name or characters, bindings and attributes.
     pub row: &'a Row,

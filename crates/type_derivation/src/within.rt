@@ -11,7 +11,7 @@ use xs_codes::Builtin;
 use xs_components::{Components, TypeId};
 
 /// The simple types within a type: itself, and where it is a union, what is within its members (Structures 3.14.6).
-#[derive(Debug, Drop)]
+#[derive(Drop)]
 pub struct Within {
     pub(crate) base: TypeId,
     // by the numbers of the simple types

@@ -7,7 +7,7 @@ use xs_lists::Listed;
 use xs_names::{NameId, Names, NsId, Text};
 
 /// A test of a name (Structures 3.11.6).
-#[derive(Debug, Drop)]
+#[derive(Drop)]
 pub enum NameTest {
     /// `*`: any name.
     Any,
@@ -18,7 +18,7 @@ pub enum NameTest {
 }
 
 /// A step from an element (Structures 3.11.6).
-#[derive(Debug, Drop)]
+#[derive(Drop)]
 pub enum Step {
     /// `.`: the element itself.
     Itself,
@@ -27,7 +27,7 @@ pub enum Step {
 }
 
 /// A path from an element to elements or attributes (Structures 3.11.6).
-#[derive(Debug, Drop)]
+#[derive(Drop)]
 pub struct Path {
     /// Whether `.//` comes first, so that the steps begin at the element and at each element below it.
     pub anywhere: bool,

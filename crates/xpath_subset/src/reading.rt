@@ -16,7 +16,7 @@ use xs_names::{NsId, Scope, Text, is_ncname, split_qname};
 const WHITE_SPACE: [char; 4] = [' ', '\t', '\n', '\r'];
 
 /// Why a text is no selector or field.
-#[derive(Debug, Clone, Copy, PartialEq, Eq)]
+#[derive(Clone, Copy)]
 pub enum XPathFault {
     /// The text is outside the grammar of selectors, or of fields.
     Syntax,

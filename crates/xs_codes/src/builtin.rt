@@ -1,5 +1,5 @@
 /// A built-in simple type that is supported (Datatypes 3; `anySimpleType` is of Structures 3.14.7).
-#[derive(Debug, Clone, Copy, PartialEq, Eq)]
+#[derive(Clone, Copy, PartialEq, Eq)]
 pub enum Builtin {
     /// `string`
     String,

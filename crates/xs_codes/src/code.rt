@@ -1,7 +1,7 @@
 /// A code: a broken constraint of XML Schema by the name that the standard gives it (Structures,
 /// appendix C; Datatypes, appendix C), or one of this project's own, which begin with `x-`. They
 /// stand in the order in which they are tried.
-#[derive(Debug, Clone, Copy, PartialEq, Eq)]
+#[derive(Clone, Copy, PartialEq)]
 pub enum Code {
     // Shape of schema documents.
     /// `x-shape.root`

@@ -1,7 +1,7 @@
 use super::code::Code;
 
 /// The first broken constraint of a set of schema documents.
-#[derive(Debug, Clone, Copy, PartialEq, Eq)]
+#[derive(Clone, Copy, PartialEq)]
 pub struct Fault {
     /// The phase of compiling that found it, from 1 (shape of documents) to 10 (identity constraints).
     pub phase: u8,
@@ -14,7 +14,7 @@ pub struct Fault {
 }
 
 /// A code found in a record, and where.
-#[derive(Debug, Clone, Copy, PartialEq, Eq)]
+#[derive(Clone, Copy, PartialEq)]
 pub struct Found {
     /// What is broken.
     pub code: Code,

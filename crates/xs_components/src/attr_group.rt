@@ -8,7 +8,7 @@ use xs_lists::Listed;
 use xs_names::NameId;
 
 /// The number of an attribute group definition in its table, counted from 0 in the order of adding. Contracts see the number.
-#[derive(Clone, Copy, Debug, PartialEq, Eq)]
+#[derive(Clone, Copy)]
 pub struct AttrGroupId {
     pub(crate) number: u32,
 }
@@ -36,7 +36,7 @@ impl AttrGroupId {
 pub type AttrGroupIdList = Listed<AttrGroupId>;
 
 /// An attribute group definition (Structures 3.6.1).
-#[derive(Debug, Drop)]
+#[derive(Drop)]
 pub struct AttrGroupDef {
     pub name: NameId,
     pub at: Place,

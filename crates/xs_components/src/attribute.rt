@@ -8,7 +8,7 @@ use xs_lists::Listed;
 use xs_names::NameId;
 
 /// The number of an attribute declaration in its table, counted from 0 in the order of adding. Contracts see the number.
-#[derive(Clone, Copy, Debug, PartialEq, Eq)]
+#[derive(Clone, Copy)]
 pub struct AttributeId {
     pub(crate) number: u32,
 }
@@ -33,7 +33,7 @@ impl AttributeId {
 }
 
 /// An attribute declaration (Structures 3.2.1).
-#[derive(Debug, Drop)]
+#[derive(Drop)]
 pub struct AttributeDecl {
     pub name: NameId,
     pub at: Place,
@@ -44,7 +44,7 @@ pub struct AttributeDecl {
 }
 
 /// A use of an attribute (Structures 3.5.1).
-#[derive(Debug, Drop)]
+#[derive(Drop)]
 pub struct AttrUse {
     pub attribute: AttributeId,
     pub at: Place,

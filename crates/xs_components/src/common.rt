@@ -4,21 +4,21 @@ use xs_lists::Listed;
 use xs_names::{NameId, Scope, Text};
 
 /// The rules that a schema set is read by: those of XML Schema 1.0, or with those of 1.1 that are known here.
-#[derive(Clone, Copy, Debug, PartialEq, Eq)]
+#[derive(Clone, Copy)]
 pub enum Rules {
     V10,
     V11,
 }
 
 /// Where a component is represented: the document, and the item in it.
-#[derive(Clone, Copy, Debug, PartialEq, Eq)]
+#[derive(Clone, Copy, PartialEq)]
 pub struct Place {
     pub document: u32,
     pub item: u32,
 }
 
 /// A set of methods of derivation (Structures 3.3.1, 3.4.1, 3.14.1).
-#[derive(Clone, Copy, Debug, PartialEq, Eq)]
+#[derive(Clone, Copy, PartialEq, Eq)]
 pub struct Methods {
     pub extension: bool,
     pub restriction: bool,
@@ -28,7 +28,7 @@ pub struct Methods {
 }
 
 /// A type: anyType (Structures 3.4.7), a built-in one, or one of the tables.
-#[derive(Clone, Copy, Debug, PartialEq, Eq)]
+#[derive(Clone, Copy, PartialEq, Eq)]
 pub enum TypeId {
     AnyType,
     Builtin(Builtin),
@@ -43,7 +43,7 @@ pub type TypeIdList = Listed<TypeId>;
 pub type NameIdList = Listed<NameId>;
 
 /// A default or fixed value (Structures 3.2.1, 3.3.1), and the scope in which its text is read.
-#[derive(Debug, Drop)]
+#[derive(Drop)]
 pub struct ValueConstraint {
     pub fixed: bool,
     pub text: Text,
@@ -51,7 +51,7 @@ pub struct ValueConstraint {
 }
 
 /// How what a wildcard admits is assessed (Structures 3.10.1).
-#[derive(Clone, Copy, Debug, PartialEq, Eq)]
+#[derive(Clone, Copy, PartialEq)]
 pub enum Process {
     Strict,
     Lax,
@@ -59,7 +59,7 @@ pub enum Process {
 }
 
 /// A wildcard (Structures 3.10.1).
-#[derive(Debug, Clone, Drop)]
+#[derive(Clone, Drop)]
 pub struct Wildcard {
     pub namespaces: NsConstraint,
     pub process: Process,

@@ -10,7 +10,7 @@ use std::marker::Model;
 use xs_names::NameId;
 
 /// The number of a complex type in its table, counted from 0 in the order of adding. Contracts see the number.
-#[derive(Clone, Copy, Debug, PartialEq, Eq)]
+#[derive(Clone, Copy, PartialEq, Eq)]
 pub struct ComplexId {
     pub(crate) number: u32,
 }
@@ -35,7 +35,7 @@ impl ComplexId {
 }
 
 /// The content of a complex type, as it is written (Structures 3.4.2).
-#[derive(Debug, Drop)]
+#[derive(Drop)]
 pub enum ContentForm {
     /// Simple content: the simple type that stands in the restriction, if one does, and the facets.
     Simple {
@@ -50,7 +50,7 @@ pub enum ContentForm {
 }
 
 /// A complex type definition (Structures 3.4.1).
-#[derive(Debug, Drop)]
+#[derive(Drop)]
 pub struct ComplexType {
     /// None for a type without a name of its own.
     pub name: Option<NameId>,

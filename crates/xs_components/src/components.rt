@@ -14,7 +14,7 @@ use std::marker::Model;
 ///
 /// A component has its number from the order of adding, and a rank, which is 0 at first and serves those who go along
 /// references. Contracts see a record of lists, with the ranks in lists of their own.
-#[derive(Debug, Drop)]
+#[derive(Drop)]
 pub struct Components {
     pub rules: Rules,
     pub(crate) simples: Table<SimpleType>,

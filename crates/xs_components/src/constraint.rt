@@ -8,7 +8,7 @@ use xs_lists::Listed;
 use xs_names::{NameId, Scope, Text};
 
 /// The number of an identity constraint in its table, counted from 0 in the order of adding. Contracts see the number.
-#[derive(Clone, Copy, Debug, PartialEq, Eq)]
+#[derive(Clone, Copy, PartialEq)]
 pub struct ConstraintId {
     pub(crate) number: u32,
 }
@@ -36,7 +36,7 @@ impl ConstraintId {
 pub type ConstraintIdList = Listed<ConstraintId>;
 
 /// What an identity constraint asks for (Structures 3.11.1).
-#[derive(Clone, Copy, Debug, PartialEq, Eq)]
+#[derive(Clone, Copy)]
 pub enum ConstraintKind {
     Unique,
     Key,
@@ -45,7 +45,7 @@ pub enum ConstraintKind {
 }
 
 /// A path as it is written, and the scope in which its prefixes are read.
-#[derive(Debug, Drop)]
+#[derive(Drop)]
 pub struct PathText {
     pub text: Text,
     pub at: Place,
@@ -56,7 +56,7 @@ pub struct PathText {
 pub type PathTextList = Listed<PathText>;
 
 /// An identity constraint definition (Structures 3.11.1).
-#[derive(Debug, Drop)]
+#[derive(Drop)]
 pub struct Constraint {
     pub name: NameId,
     pub at: Place,

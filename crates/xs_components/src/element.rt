@@ -8,7 +8,7 @@ use std::marker::Model;
 use xs_names::NameId;
 
 /// The number of an element declaration in its table, counted from 0 in the order of adding. Contracts see the number.
-#[derive(Clone, Copy, Debug, PartialEq, Eq)]
+#[derive(Clone, Copy, PartialEq)]
 pub struct ElementId {
     pub(crate) number: u32,
 }
@@ -33,7 +33,7 @@ impl ElementId {
 }
 
 /// An element declaration (Structures 3.3.1).
-#[derive(Debug, Drop)]
+#[derive(Drop)]
 pub struct ElementDecl {
     pub name: NameId,
     pub at: Place,

@@ -8,7 +8,7 @@ use std::marker::Model;
 use xs_names::NameId;
 
 /// The number of a model group definition in its table, counted from 0 in the order of adding. Contracts see the number.
-#[derive(Clone, Copy, Debug, PartialEq, Eq)]
+#[derive(Clone, Copy)]
 pub struct GroupId {
     pub(crate) number: u32,
 }
@@ -33,7 +33,7 @@ impl GroupId {
 }
 
 /// A model group definition (Structures 3.7.1).
-#[derive(Debug, Drop)]
+#[derive(Drop)]
 pub struct GroupDef {
     pub name: NameId,
     pub at: Place,

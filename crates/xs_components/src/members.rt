@@ -9,7 +9,7 @@ use xs_names::NameId;
 
 /// The names of the members of each element's substitution group, itself first (Structures 3.3.6). Contracts see a list of
 /// lists of names, in which an element's number is the place of its group.
-#[derive(Debug, Drop)]
+#[derive(Drop)]
 pub struct Members {
     groups: Listed<NameIdList>,
 }

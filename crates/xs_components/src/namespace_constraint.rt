@@ -14,7 +14,7 @@ use xs_names::NsId;
 pub type NsIdList = Listed<NsId>;
 
 /// The namespaces that a wildcard admits (Structures 3.10.1). Contracts see the set of them.
-#[derive(Debug, Clone, Drop)]
+#[derive(Clone, Drop)]
 pub enum NsConstraint {
     /// Every namespace, and the absent one.
     Any,

@@ -8,7 +8,7 @@ use std::marker::Model;
 use xs_lists::Listed;
 
 /// The number of a particle in its table, counted from 0 in the order of adding. Contracts see the number.
-#[derive(Clone, Copy, Debug, PartialEq, Eq)]
+#[derive(Clone, Copy)]
 pub struct ParticleId {
     pub(crate) number: u32,
 }
@@ -33,7 +33,7 @@ impl ParticleId {
 }
 
 /// The number of a particle whose term is an element or a wildcard. Contracts see the number.
-#[derive(Clone, Copy, Debug, PartialEq, Eq)]
+#[derive(Clone, Copy)]
 pub struct TermId {
     particle: ParticleId,
 }
@@ -68,7 +68,7 @@ impl TermId {
 pub type ParticleIdList = Listed<ParticleId>;
 
 /// What a particle accepts (Structures 3.9.1). A group stands by reference.
-#[derive(Debug, Drop)]
+#[derive(Drop)]
 pub enum Term {
     Element(ElementId),
     Any(Wildcard),
@@ -79,7 +79,7 @@ pub enum Term {
 }
 
 /// A particle (Structures 3.9.1): a term, and how often it may come.
-#[derive(Debug, Drop)]
+#[derive(Drop)]
 pub struct Particle {
     pub at: Place,
     pub min: u32,

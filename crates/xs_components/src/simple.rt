@@ -8,7 +8,7 @@ use xs_lists::Listed;
 use xs_names::{NameId, Scope, Text};
 
 /// The number of a simple type in its table, counted from 0 in the order of adding. Contracts see the number.
-#[derive(Clone, Copy, Debug, PartialEq, Eq)]
+#[derive(Clone, Copy, PartialEq, Eq)]
 pub struct SimpleId {
     pub(crate) number: u32,
 }
@@ -33,7 +33,7 @@ impl SimpleId {
 }
 
 /// The constraining facets (Datatypes 4.3).
-#[derive(Clone, Copy, Debug, PartialEq, Eq)]
+#[derive(Clone, Copy, PartialEq)]
 pub enum FacetKind {
     Length,
     MinLength,
@@ -50,7 +50,7 @@ pub enum FacetKind {
 }
 
 /// A facet as it is written: its value, and the scope in which the value is read.
-#[derive(Debug, Drop)]
+#[derive(Drop)]
 pub struct FacetItem {
     pub kind: FacetKind,
     pub text: Text,
@@ -63,7 +63,7 @@ pub struct FacetItem {
 pub type FacetStep = Listed<FacetItem>;
 
 /// How a simple type is made from others (Structures 3.14.2).
-#[derive(Debug, Drop)]
+#[derive(Drop)]
 pub enum SimpleForm {
     /// A restriction of a base by facets.
     Restrict { base: TypeId, step: FacetStep },
@@ -74,7 +74,7 @@ pub enum SimpleForm {
 }
 
 /// A simple type definition (Structures 3.14.1).
-#[derive(Debug, Drop)]
+#[derive(Drop)]
 pub struct SimpleType {
     /// None for a type without a name of its own.
     pub name: Option<NameId>,

@@ -6,7 +6,7 @@ use std::alloc::{AllocError, Global};
 use std::marker::Model;
 
 // Parts of one kind by number, counted from 0 in the order of adding, each with a rank, which is 0 at first.
-#[derive(Debug, Drop)]
+#[derive(Drop)]
 pub(crate) struct Table<T: Drop> {
     parts: Vec<T>,
     ranks: Vec<u32>,

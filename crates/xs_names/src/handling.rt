@@ -7,7 +7,7 @@ use crate::{Text, Texts};
 use std::alloc::{AllocError, Global};
 
 /// What a type does with the white space of a text, before its literals are read (Datatypes 4.3.6).
-#[derive(Debug, Clone, Copy, PartialEq, Eq, PartialOrd, Ord, Hash)]
+#[derive(Clone, Copy, PartialEq)]
 pub enum WhiteSpace {
     /// Nothing.
     Preserve,

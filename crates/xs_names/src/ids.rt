@@ -3,7 +3,7 @@ ghost use Rattle.std.specs.Prelude.{◌≡◌};
 use std::marker::Model;
 
 /// The number of a namespace in a `Names`, counted from 0 in the order of coming. Contracts see the number.
-#[derive(Clone, Copy, Debug, PartialEq, Eq, PartialOrd, Ord, Hash)]
+#[derive(Clone, Copy, PartialEq, Eq, Hash)]
 pub struct NsId {
     pub(crate) number: u32,
 }
@@ -35,7 +35,7 @@ impl NsId {
 
 /// The number of a name, a namespace with a local part, in a `Names`, counted from 0 in the order of coming. Contracts see
 /// the number.
-#[derive(Clone, Copy, Debug, PartialEq, Eq, PartialOrd, Ord, Hash)]
+#[derive(Clone, Copy, PartialEq, Eq, Hash)]
 pub struct NameId {
     pub(crate) number: u32,
 }

@@ -69,7 +69,7 @@ impl NumberedTexts {
 }
 
 /// A name by numbers: its namespace, and its local part.
-#[derive(Debug, Clone, Copy, PartialEq, Eq, Hash)]
+#[derive(Clone, Copy, PartialEq, Eq, Hash)]
 pub(crate) struct Pair {
     pub(crate) space: u32,
     pub(crate) local: u32,

@@ -5,7 +5,7 @@ ghost use Rattle.xs_names.specs.QName.{IsQName, IsNoQName, prefix_of, joined, qn
 use crate::is_ncname;
 
 /// The text is no QName.
-#[derive(Debug, Clone, Copy, PartialEq, Eq)]
+#[derive(Clone, Copy)]
 pub struct BadName;
 
 /// The prefix and the local part of a QName (Namespaces in XML 1.0, productions 7 to 11).

@@ -7,12 +7,12 @@ use std::alloc::{AllocError, Global};
 use std::marker::Model;
 
 /// The prefix has no binding.
-#[derive(Debug, Clone, Copy, PartialEq, Eq)]
+#[derive(Clone, Copy)]
 pub struct Unbound;
 
 /// A prefix with the number of its namespace. The empty prefix is the default namespace; under the absent namespace it is
 /// undeclared.
-#[derive(Debug, Drop)]
+#[derive(Drop)]
 pub struct ScopeBinding {
     pub prefix: Text,
     pub ns: NsId,
@@ -32,7 +32,7 @@ fn latest_binding<'a>(bindings: &'a [ScopeBinding], prefix: &str) -> Option<&'a 
 ///
 /// The empty prefix stands for the default namespace. Before an element's bindings `len` tells where its scope began, and
 /// after the element `truncate` goes back there.
-#[derive(Debug, Drop)]
+#[derive(Drop)]
 pub struct Scope {
     bindings: Vec<ScopeBinding>,
 }

@@ -7,7 +7,7 @@ use std::rc::RcStr;
 /// A text whose characters its copies share. Contracts see its bytes in UTF-8, as they see those of a `&str`.
 ///
 /// Texts are compared by `as_str`.
-#[derive(Debug, Drop)]
+#[derive(Drop)]
 pub struct Text {
     pub(crate) inner: RcStr,
 }

@@ -7,7 +7,7 @@ use std::alloc::{AllocError, Global};
 use std::marker::Model;
 
 /// A list of texts. Contracts see the list of their bytes in UTF-8.
-#[derive(Debug, Drop)]
+#[derive(Drop)]
 pub struct Texts {
     inner: Vec<Text>,
 }

@@ -8,7 +8,7 @@ use std::alloc::{AllocError, Global};
 use std::marker::Model;
 
 /// The number of an expression in an [`Expr`], counted from 0 in the order of coming. Contracts see the number.
-#[derive(Clone, Copy, Debug, PartialEq, Eq)]
+#[derive(Clone, Copy)]
 pub struct ExprId {
     pub(crate) number: u32,
 }
@@ -38,7 +38,7 @@ impl ExprId {
     }
 }
 
-#[derive(Debug, Drop)]
+#[derive(Drop)]
 pub(crate) enum Node {
     Symbol(u32),
     Sequence(Vec<ExprId>),
@@ -62,7 +62,7 @@ impl Node {
 }
 
 /// Expressions, each under its number. Contracts see the list of their trees, which only grows.
-#[derive(Debug, Drop)]
+#[derive(Drop)]
 pub struct Expr {
     alloc: Global,
     nodes: Vec<Node>,

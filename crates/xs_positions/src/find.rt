@@ -19,14 +19,14 @@ use std::marker::Model;
 use std::mem;
 
 /// Why an expression's positions are not listed.
-#[derive(Clone, Copy, Debug, PartialEq, Eq)]
+#[derive(Clone, Copy)]
 pub enum PositionsError {
     /// There are more positions than the limit allows.
     TooMany,
 }
 
 /// The positions of an expression, numbered from 0: the copies of its symbols.
-#[derive(Debug, Drop)]
+#[derive(Drop)]
 pub struct Positions {
     symbols: Vec<u32>,
     /// The sets without the rows of followers.

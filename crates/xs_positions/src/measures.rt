@@ -9,7 +9,7 @@ use crate::expr::{ExprId, Node};
 use std::alloc::{AllocError, Global};
 
 /// What is known of an expression before its sets are built.
-#[derive(Clone, Copy, Debug)]
+#[derive(Clone, Copy)]
 pub(crate) struct Measure {
     /// How many positions it has; a number past 64 bits counts as the largest of 64 bits.
     pub(crate) size: u64,

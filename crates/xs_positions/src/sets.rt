@@ -8,7 +8,7 @@ use std::alloc::{AllocError, Global};
 use std::mem;
 
 /// Positions from one on and before another.
-#[derive(Clone, Copy, Debug)]
+#[derive(Clone, Copy)]
 pub(crate) struct Span {
     pub(crate) from: u32,
     pub(crate) to: u32,
@@ -25,7 +25,7 @@ impl Span {
 
 /// The sets of a part of an expression, whose positions have numbers from some base on. The first and the last positions
 /// rise; those that follow one stand in the order of their coming.
-#[derive(Debug, Drop)]
+#[derive(Drop)]
 pub(crate) struct Part {
     /// The positions that may begin a word.
     pub(crate) first: Vec<u32>,

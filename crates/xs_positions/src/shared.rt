@@ -9,7 +9,7 @@ use std::alloc::{AllocError, Global};
 use std::marker::Model;
 
 /// Rows of numbers. Contracts see the list of the rows.
-#[derive(Debug, Drop)]
+#[derive(Drop)]
 pub(crate) struct SharedRows {
     /// The rows that differ from those before them, as far as that was seen.
     rows: Vec<Vec<u32>>,

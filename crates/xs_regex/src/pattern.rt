@@ -17,7 +17,7 @@ use std::marker::Model;
 use std::rc::Rc;
 
 /// A regular expression, ready to match texts. Contracts see its term.
-#[derive(Debug, Drop)]
+#[derive(Drop)]
 pub struct Pattern {
     /// Shared by the copies of the pattern.
     program: Rc<Program>,

@@ -21,7 +21,7 @@ use xs_positions::{ExprId, Positions, PositionsError, find_positions};
 const MOST_POSITIONS: u32 = 4_096;
 
 /// The positions of a term.
-#[derive(Debug, Drop)]
+#[derive(Drop)]
 pub(crate) struct Program {
     terms: Terms,
     root: ExprId,

@@ -7,7 +7,7 @@ use std::alloc::{AllocError, Global};
 use std::marker::Model;
 
 /// A set of numbers below a bound. Contracts see a flag for each number below it.
-#[derive(Debug, Drop)]
+#[derive(Drop)]
 pub(crate) struct PositionSet {
     flags: Vec<bool>,
     /// The numbers whose flag is set, each of them once. There is room for all below the bound.

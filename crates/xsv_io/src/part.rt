@@ -1,5 +1,5 @@
 /// A part of a line.
-#[derive(Clone, Copy, Debug)]
+#[derive(Clone, Copy)]
 pub enum Part<'a> {
     /// A text as it stands.
     Text(&'a str),

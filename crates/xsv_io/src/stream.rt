@@ -5,7 +5,7 @@ ghost use Rattle.xsv_io.specs.Causes.{HasCause};
 ghost use Rattle.xsv_io.specs.Writing.{AppendsFront};
 
 /// A read or a write that failed.
-#[derive(Clone, Copy, Debug, PartialEq, Eq)]
+#[derive(Clone, Copy, PartialEq)]
 pub struct Failed;
 
 /// Bytes that come in pieces.

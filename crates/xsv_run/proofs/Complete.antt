@@ -46,10 +46,10 @@ same_told (outcomes.Accepted a) (outcomes.Broken g) h = absurd h
 same_told (outcomes.Broken f) (outcomes.Accepted b) h = absurd h
 same_told (outcomes.Broken f) (outcomes.Broken g) h = ap broken h
 
-pub one_outcome : ((documents : List SchemaInput) (a b : Outcome) → IsOutcome documents a → IsOutcome documents b → IsSameOutcome a b)
+pub one_outcome : ((documents : List SchemaInput) (start : ℕ) (a b : Outcome) → IsOutcome documents start a → IsOutcome documents start b → IsSameOutcome a b)
     → (question : Question) (x y : SetOutcome) → IsOutcomeOf question x → IsOutcomeOf question y → x ≡ y
 one_outcome law question x y h l =
-    h.told_is ∙ (same_told h.outcome l.outcome (law question.documents h.outcome l.outcome h.is_outcome l.is_outcome) ∙ sym l.told_is)
+    h.told_is ∙ (same_told h.outcome l.outcome (law question.documents question.start h.outcome l.outcome h.is_outcome l.is_outcome) ∙ sym l.told_is)
 
 module _ (found_is : (s : SchemaSet) (d : Document) (x y : List Entry) → IsFound s d x → IsFound s d y → x ≡ y)
     (outcome_is : (question : Question) (x y : SetOutcome) → IsOutcomeOf question x → IsOutcomeOf question y → x ≡ y)

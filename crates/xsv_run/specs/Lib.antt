@@ -5,3 +5,5 @@ pub mod Output
 pub mod Complete
 pub mod Authors
 pub mod inside
+pub mod from_open_document
+pub mod from_edit_session

@@ -11,7 +11,7 @@ use told::{BreakOff, Ending};
 use xsv_io::Sink;
 
 /// What the next item has done.
-#[derive(Clone, Copy, Debug, PartialEq, Eq)]
+#[derive(Clone, Copy)]
 pub enum Next {
     /// It was answered.
     Goes,

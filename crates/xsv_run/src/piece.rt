@@ -16,7 +16,7 @@ use xsv_steps::{Ledger, Steps};
 pub const ENOUGH: usize = MOST_BYTES + 1;
 
 /// What a read has done.
-#[derive(Clone, Copy, Debug, PartialEq, Eq)]
+#[derive(Clone, Copy)]
 pub enum Piece {
     /// So many bytes came and were answered.
     Goes(usize),

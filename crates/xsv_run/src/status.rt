@@ -3,7 +3,7 @@ ghost use Rattle.std.specs.Prelude.{◌≡◌};
 use told::{BreakOff, Ending};
 
 /// How a run ended. The last three of its kinds are no answer to the stream.
-#[derive(Clone, Copy, Debug, PartialEq, Eq)]
+#[derive(Clone, Copy)]
 pub enum Status {
     /// The schema set is accepted, and the root is valid where a document was asked for.
     Valid,

@@ -27,12 +27,12 @@ abbrev pub IsComposedCompiled : List Available → List SetDocument → Result C
 IsComposedCompiled available set answer = (originals : List (Option ℕ)) × AreOriginals available set originals × IsSetCompiled set originals answer
 
 -- the first fault of how the documents are composed, if there is one
-abbrev pub IsComposed : List Available → Option Fault → Type 0
-IsComposed available found = IsLeast (BreaksComposition available) found
+abbrev pub IsComposed : List Available → ℕ → Option Fault → Type 0
+IsComposed available start found = IsLeast (BreaksComposition available start) found
 
 -- a set whose documents are of the right shape
-abbrev pub IsClosedCompiled : List Available → List SetDocument → Result CompiledSet Fault → Type 0
-IsClosedCompiled available set (Ok made) =
-    IsComposed available None × (originals : List (Option ℕ)) × AreOriginals available set originals × IsSetCompiled set originals (Ok made)
-IsClosedCompiled available set (Err fault) =
-    IsComposed available (Some fault) ⊎ (IsComposed available None × (originals : List (Option ℕ)) × AreOriginals available set originals × IsSetCompiled set originals (Err fault))
+abbrev pub IsClosedCompiled : List Available → ℕ → List SetDocument → Result CompiledSet Fault → Type 0
+IsClosedCompiled available start set (Ok made) =
+    IsComposed available start None × (originals : List (Option ℕ)) × AreOriginals available set originals × IsSetCompiled set originals (Ok made)
+IsClosedCompiled available start set (Err fault) =
+    IsComposed available start (Some fault) ⊎ (IsComposed available start None × (originals : List (Option ℕ)) × AreOriginals available set originals × IsSetCompiled set originals (Err fault))

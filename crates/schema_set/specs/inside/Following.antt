@@ -38,7 +38,7 @@ next_of available place _ = None
 abbrev pub following : List Available → ℕ → List ℕ
 following available x = filter_map (λ shape. next_of available (x % length available) shape.form) (shapes_at available (x / length available))
 
--- the first document leads there
-pub data Reaches (available : List Available) : ℕ → Type 0 where
-  start : Reaches available 0
-  further : (x y : ℕ) → Reaches available x → Contains (following available x) y → Reaches available y
+-- the document of this place leads there, with its own target namespace
+pub data Reaches (available : List Available) (start : ℕ) : ℕ → Type 0 where
+  begins : Reaches available start (with_own available (start + 1))
+  further : (x y : ℕ) → Reaches available start x → Contains (following available x) y → Reaches available start y

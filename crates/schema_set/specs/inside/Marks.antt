@@ -1,7 +1,7 @@
 -- Marks of numbers.
 use Rattle.std.specs.Prelude.{◌≡◌, ℕ, ◌+◌, ◌⊎◌, List, [], ◌∷◌, Bool, true, false, Contains, All, length, slice_index_or, sum_by, if◌then◌else◌}
 use Rattle.schema_set.specs.declared.documents.Available.{Available}
-use Rattle.schema_set.specs.inside.Following.{following, Reaches}
+use Rattle.schema_set.specs.inside.Following.{with_own, following, Reaches}
 
 abbrev pub marked : List Bool → ℕ → Bool
 marked seen y = slice_index_or seen y false
@@ -28,9 +28,9 @@ pub record IsMarking (xs : List ℕ) (old new : List Bool) (old_todo new_todo : 
   pub waits : (y : ℕ) → Contains new_todo y → Contains old_todo y ⊎ (marked new y ≡ true)
   pub count : unmarked new + length new_todo ≡ unmarked old + length old_todo
 
--- the first document leads to what is marked, and what a marked one leads to is marked or it is to be done
-pub record IsReach (available : List Available) (seen : List Bool) (todo : List ℕ) : Type 0 where
-  pub reached : (y : ℕ) → marked seen y ≡ true → Reaches available y
+-- the document of this place leads to what is marked, and what a marked one leads to is marked or it is to be done
+pub record IsReach (available : List Available) (start : ℕ) (seen : List Bool) (todo : List ℕ) : Type 0 where
+  pub reached : (y : ℕ) → marked seen y ≡ true → Reaches available start y
   pub waiting : (y : ℕ) → Contains todo y → marked seen y ≡ true
-  pub begun : marked seen 0 ≡ true
+  pub begun : marked seen (with_own available (start + 1)) ≡ true
   pub closed : (y : ℕ) → marked seen y ≡ true → Contains todo y ⊎ All (λ z. marked seen z ≡ true) (following available y)

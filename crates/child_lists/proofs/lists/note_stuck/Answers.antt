@@ -2,7 +2,7 @@ use Rattle.std.proofs.Common.{ap, ◌∙◌}
 use Rattle.child_listing.specs.from_kept_records.KeptElement.{KeptElement}
 use Rattle.child_listing.specs.from_kept_state.KeptChildren.{KeptChildren}
 use Rattle.child_listing.proofs.from_kept_state.Beside.{kept-there}
-use Rattle.child_lists.proofs.Written.{midway-written, stuck-written, given-written, counted-written, pair-stays}
+use Rattle.child_lists.proofs.Written.{midway-written, stuck-written, given-written, counted-written, identity-stays, pair-stays}
 use Rattle.child_lists.proofs.lists.note_stuck.Goals as goal
 
 pub children-children-requires : goal.children-children-requires
@@ -50,6 +50,12 @@ returns-clause-counted g c =
 
 pub returns-clause-rest : goal.returns-clause-rest
 returns-clause-rest g c = let made = c.requires.midway.2.made in (c.set_children.ensures.change made.0 made.1).slots.others
+
+pub returns-clause-identity : goal.returns-clause-identity
+returns-clause-identity g c =
+    let made = c.requires.midway.2.made in
+    identity-stays c.args.set.now c.args.doc.now c.args.kept.now c.set_children.new.self c.args.parent made.0 made.1 c.stuck_place-children.result c.children-children.result.counts
+    (c.set_children.ensures.change made.0 made.1)
 
 pub returns-clause-least : goal.returns-clause-least
 returns-clause-least g c = c.stuck_place-children.ensures.least

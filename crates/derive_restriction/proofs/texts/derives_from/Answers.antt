@@ -1,4 +1,4 @@
-use Rattle.std.proofs.Common.{◌≡◌, ◌↔◌, IsTrue, IfOk, Bool, true, false, sym, subst}
+use Rattle.std.proofs.Common.{◌↔◌, IsTrue, IfOk, Bool, sym, subst}
 use Rattle.derive_restriction.specs.Contents as spec
 use Rattle.derive_restriction.proofs.texts.derives_from.Goals as goal
 

@@ -4,9 +4,5 @@ use Rattle.facets.proofs.Skipping.{skipped_on}
 use Rattle.facets.proofs.trying.try_plains.Goals as goal
 
 pub loop-place-preserved-then-place-start : goal.loop-place-preserved-then-place-start
-loop-place-preserved-then-place-start c = record {
-  members = c.loop-place.invariant.members;
-  gates = c.loop-place.invariant.gates;
-  tried = λ outcome t. c.loop-place.invariant.tried outcome
-      (skipped_on (IsPlainRead c.args.scope.now c.args.text.now) c.args.gates.now c.args.members.now c.loop-place.place c.loop-place.place c.loop-place.start outcome (omega arith) c.if-place-start.true t);
-}
+loop-place-preserved-then-place-start c = λ outcome t. c.loop-place.invariant outcome
+    (skipped_on (IsPlainRead c.args.scope.now c.args.text.now) c.args.gates.now c.args.members.now c.loop-place.place c.loop-place.place c.loop-place.start outcome (omega arith) c.if-place-start.true t)

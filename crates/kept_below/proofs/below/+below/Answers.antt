@@ -12,7 +12,7 @@ use Rattle.doc_nodes.specs.Nodes.{Nodes, Has, element_children}
 use Rattle.doc_documents.specs.Readers.{element_numbers}
 use Rattle.kept_slots.specs.Slots.{at}
 use Rattle.child_listing.specs.from_kept_records.Slots.{blank}
-use Rattle.child_listing.specs.from_kept_state.Kept.{CanGovern, FitBut, IsBeside}
+use Rattle.child_listing.specs.from_kept_state.Kept.{CanGovern, FitBut, IsBeside, children_at}
 use Rattle.child_listing.specs.from_kept_state.Governed.{Governed}
 use Rattle.child_listing.specs.from_kept_state.KeptState.{KeptState}
 use Rattle.child_listing.specs.from_kept_judging.Judged.{pair_by}
@@ -27,6 +27,7 @@ use Rattle.kept_forgetting.proofs.Depths.{element-depth}
 use Rattle.child_listing.proofs.Distinct.{has-place, place-has}
 use Rattle.kept_below.proofs.Fits.{more-fit, more-beside}
 use Rattle.kept_forgetting.proofs.Keeping.{keeps-same, keeps-lists, keeps-then}
+use Rattle.kept_below.proofs.Identity.{identity-then, identity-lists, identity-judged, identity-made}
 use Rattle.kept_below.proofs.Keeping.{spare-kept}
 use Rattle.kept_below.proofs.Moving.{counts-own, not-typed, room-first, room-ended, HasRoom}
 use Rattle.kept_below.proofs.below.+below.Goals as goal
@@ -86,6 +87,7 @@ settle_all-loop-child-init g t c = record {
   governed = λ child h. absurd h;
   counts = c.new-counts.ensures;
   fit = λ parent waiting are all. all;
+  identity = λ n. refl;
   rest = λ parent are. keeps-same (IsBelow c.args.doc.now parent.node) c.args.kept.now;
   least = omega arith;
   steps = λ siblings governs down are so. room-first c.args.set.now c.args.doc.now governs c.args.kept.now.records.slots siblings (map number c.args.children.now) c.args.steps.now down are;
@@ -116,6 +118,7 @@ settle_all-loop-child-preserved g t c =
       fit = λ parent waiting are all.
           subst (λ (s : Compiled). FitBut s ns b (parent.node ∷ waiting)) inv.same
           (done.fit (parent.node ∷ waiting) (subst (λ (s : Compiled). FitBut s ns a (parent.node ∷ waiting)) (sym inv.same) (inv.fit parent waiting are all)) (child-above set ns sound parent cs are i child here waiting));
+      identity = identity-then c.args.kept.now a b inv.identity done.identity;
       rest = λ parent are. keeps-next set ns sound parent cs are a b i child here done.settled c.args.kept.now (inv.rest parent are);
       least = omega (arith, inv.least, done.least);
       steps = λ siblings governs down are so.
@@ -230,6 +233,7 @@ settle_children-returns g t c =
       fresh = listed.listing.fresh;
       fit = λ waiting all. done.fit parent waiting are (more-fit set ns old mid listed.rest listed.others (parent.node ∷ waiting) all);
       rest = keeps-then (IsBelow ns parent.node) old mid new (keeps-lists (IsBelow ns parent.node) old mid listed.rest listed.others) below;
+      identity = identity-then old mid new (identity-lists old mid listed.rest) done.identity;
       beside = done.beside;
       same = done.same;
       least = omega (arith, c.list_children.ensures.least, done.least);
@@ -272,6 +276,9 @@ settle_below-returns-then-is_governed-clause-settled g t c =
     let so = c.if-is_governed.ensures.0 refl in
     settled-same c.args.doc.now c.args.kept.now c.args.element.now so.0 so.1
 
+pub settle_below-returns-then-is_governed-clause-identity : goal.settle_below-returns-then-is_governed-clause-identity
+settle_below-returns-then-is_governed-clause-identity g t c = λ n. refl
+
 pub settle_below-returns-clause-fit : goal.settle_below-returns-clause-fit
 settle_below-returns-clause-fit g t c =
     on-one c.settle_again.result _ _ (λ fit waiting all above. fit waiting (λ m made lacks. all m made lacks.1) above) c.settle_again.ensures.fit
@@ -306,6 +313,21 @@ settle_again-returns-clause-fit g t c =
     on-one c.keep_anew.result _ _
     (λ made. anew-fits c.args.set.now c.args.doc.now c.args.element.now c.in_ok-children.children c.args.kept.now c.settle_children.new.kept c.keep_anew.new.kept done.rest
     (subst (λ (s : Compiled). IsMadeAnew s c.args.doc.now c.settle_children.new.kept c.keep_anew.new.kept c.args.element.now c.in_ok-children.children) done.same made) done.beside done.spare done.children done.fit)
+    c.keep_anew.ensures.made
+
+pub settle_again-returns-then-is_typed-clause-identity : goal.settle_again-returns-then-is_typed-clause-identity
+settle_again-returns-then-is_typed-clause-identity g t c =
+    on-one c.judge.result _ _
+    (λ anew. identity-judged c.args.set.now c.args.doc.now c.args.kept.now c.judge.new.kept c.args.element.now.node c.args.element.now.pair (children_at c.args.kept.now.records.slots c.args.element.now.node) anew)
+    c.judge.ensures.judged
+
+pub settle_again-returns-clause-identity : goal.settle_again-returns-clause-identity
+settle_again-returns-clause-identity g t c =
+    let done = c.in_ok-children.ensures in
+    on-one c.keep_anew.result _ _
+    (λ made. identity-then c.args.kept.now c.settle_children.new.kept c.keep_anew.new.kept done.identity
+    (identity-made c.args.set.now c.args.doc.now c.settle_children.new.kept c.keep_anew.new.kept c.args.element.now c.in_ok-children.children
+    (subst (λ (s : Compiled). IsMadeAnew s c.args.doc.now c.settle_children.new.kept c.keep_anew.new.kept c.args.element.now c.in_ok-children.children) done.same made)))
     c.keep_anew.ensures.made
 
 pub settle_again-returns-clause-beside : goal.settle_again-returns-clause-beside

@@ -8,6 +8,7 @@ use Rattle.child_listing.specs.from_kept_state.Kept.{FitBut, IsBeside}
 use Rattle.child_listing.specs.from_kept_state.Governed.{Governed}
 use Rattle.child_listing.specs.Children.{AreGoverned}
 use Rattle.kept_forgetting.specs.Below.{IsBelow, KeepsBut}
+use Rattle.kept_below.specs.Below.{KeepsIdentity}
 use Rattle.kept_below.specs.Moved.{moved, AreGivenDown}
 use Rattle.kept_below.proofs.Children.{number, IsSo, record-of, left-of}
 use Rattle.kept_below.proofs.Moving.{HasRoom}
@@ -33,6 +34,7 @@ invariant-settle_all-loop-child g l = record {
   counts : l.counts ≡ counts_of (map (record-of l.kept) (take l.child-index l.children));
   fit : (parent : Governed) (waiting : List ℕ) → AreGoverned l.initial.set l.doc parent l.children → FitBut l.initial.set l.doc l.initial.kept (parent.node ∷ waiting) →
       FitBut l.initial.set l.doc l.kept (parent.node ∷ waiting);
+  identity : KeepsIdentity l.initial.kept l.kept;
   rest : (parent : Governed) → AreGoverned l.initial.set l.doc parent l.children → KeepsBut (IsBelow l.doc parent.node) l.initial.kept l.kept;
   least : l.initial.steps ≤ l.steps;
   steps : (siblings : Forest) (governs : ℕ → Governing) → AreGivenDown l.initial.set l.doc governs siblings → element_numbers siblings ≡ map number l.children →

@@ -1,5 +1,6 @@
 use Rattle.std.proofs.Common.{inl, inr, refl, sym, subst}
 use Rattle.std.specs.Prelude.{OnOk}
+use Rattle.std.proofs.lemmas.Result.{on_ok_weaker}
 use Rattle.compiled_schema.specs.declared.compiled.Compiled.{Compiled}
 use Rattle.doc_edits.specs.Changes.{CanMake, changed}
 use Rattle.doc_edits.specs.declared.change.Change.{Change}
@@ -7,6 +8,8 @@ use Rattle.kept_children.specs.from_kept_state.Kept.{IsBeside}
 use Rattle.kept_children.specs.Edited.{IsRightFor}
 use Rattle.kept_changes.specs.Spots.{HasChangedAt, TakesSpot}
 use Rattle.kept_changes.proofs.Following.{changed-at, changed-beside, pruned-change, removal-stands, takes-change, takes-removal, ok-of}
+use Rattle.kept_changes.specs.declared.change.Spot.TheVariants.{Pruned}
+use Rattle.kept_changes.proofs.Turned.{turned-at}
 use Rattle.kept_changes.proofs.change.keep_change.Goals as goal
 
 pub spot_of-requires : goal.spot_of-requires
@@ -71,3 +74,22 @@ returns-in_ok-make-in_default-clause-reach g c = λ d z.
 
 pub returns-in_err-make-in_default-clause-reach : goal.returns-in_err-make-in_default-clause-reach
 returns-in_err-make-in_default-clause-reach g c = λ d z. inl (c.in_err-make-in_default.ensures.err, refl)
+
+pub returns-in-Pruned-clause-identity : goal.returns-in-Pruned-clause-identity
+returns-in-Pruned-clause-identity g c = on_ok_weaker c.prune.result (λ same n out. same n (λ within. out (c.in-Pruned.node, c.in-Pruned.ensures, within))) c.prune.ensures.identity
+
+pub returns-in_ok-make-in_default-clause-identity : goal.returns-in_ok-make-in_default-clause-identity
+returns-in_ok-make-in_default-clause-identity g c = on_ok_weaker c.follow.result (λ same n out. same n) c.follow.ensures.identity
+
+pub returns-in-Pruned-clause-turned : goal.returns-in-Pruned-clause-turned
+returns-in-Pruned-clause-turned g c = ok-of c.prune.result (Pruned c.in-Pruned.node, c.in-Pruned.ensures, c.prune.ensures.turned)
+
+pub returns-in_ok-make-in_default-clause-turned : goal.returns-in_ok-make-in_default-clause-turned
+returns-in_ok-make-in_default-clause-turned g c =
+    let q = c.requires.can in
+    let stands = c.in_ok-make-in_default.ensures.made q.0 q.1 in
+    ok-of c.follow.result (
+      c.spot_of.result,
+      c.spot_of.ensures,
+      turned-at c.args.set.now.names c.args.doc.now c.make.new.doc q.0 q.1 stands.links c.args.change c.spot_of.result c.spot_of.ensures c.in_default.not-Pruned q.2 c.in_ok-make-in_default.ensures.nodes,
+    )

@@ -8,6 +8,9 @@ use Rattle.kept_children.specs.from_kept_state.Kept.{CanGovern, FitBut, IsBeside
 use Rattle.kept_children.specs.from_kept_state.Governed.{Governed}
 use Rattle.kept_children.specs.from_kept_above.Climbing.{IsClimbing}
 use Rattle.kept_children.specs.from_kept_below.Below.{AreAbove, IsSettled}
+use Rattle.std.proofs.lemmas.Result.{on_ok_weaker}
+use Rattle.kept_children.proofs.Climbed.{climbed}
+use Rattle.kept_children.proofs.from_kept_below.Identity.{identity-then}
 use Rattle.kept_changes.proofs.Reread.{all-ok}
 use Rattle.kept_changes.proofs.Reattributed.{above-of, own-made, others-fit, own-gathered, above-waits, above-higher, same-again, again-can, reattribute-climbs, reattribute-right}
 use Rattle.kept_changes.proofs.own.reattribute.Goals as goal
@@ -70,3 +73,8 @@ returns-clause-right g c =
     (reattribute-right c.args.set.now c.args.doc.now c.args.kept.now c.args.node c.requires.beside c.requires.reattributed c.settle_again.new.kept settled c.in_ok-settle_again.ensures.beside fits c.settle_above.new.kept)
     (subst (λ (set : Compiled). OnOk c.settle_above.result (FitBut set c.args.doc.now c.settle_above.new.kept [])) c.settle_again.ensures.same c.settle_above.ensures.fit)
     (subst (λ (set : Compiled). OnOk c.settle_above.result (IsBeside set c.args.doc.now c.settle_above.new.kept)) c.settle_again.ensures.same c.settle_above.ensures.beside) c.settle_above.ensures.rest
+
+pub returns-clause-identity : goal.returns-clause-identity
+returns-clause-identity g c =
+    let again = c.settle_again.new.kept in
+    on_ok_weaker c.settle_above.result (λ rest. identity-then c.args.kept.now again c.settle_above.new.kept c.in_ok-settle_again.ensures.identity (climbed again c.settle_above.new.kept rest)) c.settle_above.ensures.rest

@@ -1,4 +1,4 @@
-use Rattle.std.proofs.Common.{[], sym, ap, ◌∙◌, subst}
+use Rattle.std.proofs.Common.{[], refl, sym, ap, ◌∙◌, subst}
 use Rattle.std.specs.Prelude.{OnOk}
 use Rattle.elem_governing.specs.declared.pairs.Governing.{Governing}
 use Rattle.compiled_schema.specs.declared.compiled.Compiled.{Compiled}
@@ -8,6 +8,9 @@ use Rattle.kept_children.specs.from_kept_state.KeptState.{KeptState}
 use Rattle.kept_children.proofs.from_kept_state.Beside.{kept-there}
 use Rattle.kept_children.specs.from_kept_judging.Judged.{IsJudgedAnew}
 use Rattle.kept_children.specs.from_kept_above.Climbing.{IsClimbing}
+use Rattle.std.proofs.lemmas.Result.{on_ok_weaker}
+use Rattle.kept_children.proofs.Climbed.{climbed}
+use Rattle.kept_children.proofs.from_kept_below.Identity.{identity-judged, identity-put, identity-then}
 use Rattle.kept_changes.proofs.Reread.{all-ok}
 use Rattle.kept_changes.proofs.Retexted.{made-own, texts-written, texts-beside, retext-climbs, retext-right}
 use Rattle.kept_changes.proofs.own.retext.Goals as goal
@@ -74,3 +77,14 @@ returns-clause-right c =
     c.settle_above.new.kept)
     (subst (λ (set : Compiled). OnOk c.settle_above.result (FitBut set c.args.doc.now c.settle_above.new.kept [])) c.judge.ensures.same c.settle_above.ensures.fit)
     (subst (λ (set : Compiled). OnOk c.settle_above.result (IsBeside set c.args.doc.now c.settle_above.new.kept)) c.judge.ensures.same c.settle_above.ensures.beside) c.settle_above.ensures.rest
+
+pub returns-clause-identity : goal.returns-clause-identity
+returns-clause-identity c =
+    let old = c.args.kept.now in
+    let own = made-own c.args.set.now c.args.doc.now old c.args.node c.requires.beside c.requires.retexted in
+    let mid : KeptState = record old { records = c.set_text.new.self } in
+    let judged = c.judge.new.kept in
+    on_ok_weaker c.settle_above.result (λ rest. identity-then old judged c.settle_above.new.kept
+    (identity-then old mid judged (identity-put old mid c.args.node own.0 own.1 (record own.0 { text = c.in_ok-text.text }) refl (c.set_text.ensures.change own.0 own.1))
+    (identity-judged c.args.set.now c.args.doc.now mid judged c.args.node c.pair-pair.result (children_at mid.records.slots c.args.node) c.in_ok-judge.ensures.judged))
+    (climbed judged c.settle_above.new.kept rest)) c.settle_above.ensures.rest

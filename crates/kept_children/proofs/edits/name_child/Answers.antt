@@ -9,6 +9,7 @@ use Rattle.kept_below.specs.Moved.{moved}
 use Rattle.child_lists.specs.Family.{AreGivenBut, IsAttributed, IsMidway}
 use Rattle.kept_children.specs.Edited.{IsRightFor}
 use Rattle.kept_children.specs.Steps.{GovernsBelow, digits, marked_count, places_of, width}
+use Rattle.kept_below.proofs.Identity.{identity-records, identity-then}
 use Rattle.kept_children.proofs.Asking.{places-stay}
 use Rattle.kept_children.proofs.Renamed.{renamed-midway, renamed-listed, renamed-counted, renamed-given}
 use Rattle.kept_children.proofs.Same.{same-pair, same-counted, same-given, same-moved, governs-still, count-stays, whole-steps, steps-so-far}
@@ -138,3 +139,12 @@ returns-clause-steps g c = λ siblings governs below.
     (subst (λ m. c.settle_named.new.steps + 3 * moved k.records.slots governs siblings ≤ c.note_stuck.new.steps + (8 * d * m + 3 * moved old.records.slots governs siblings)) few
     (subst (λ m. c.settle_named.new.steps + 3 * moved k.records.slots governs siblings ≤ c.note_stuck.new.steps + (8 * d * marked_count set ns noted p + 3 * m)) was left))
     (subst (λ m. c.settle_rest.new.steps ≤ c.settle_named.new.steps + (8 * d * m + 3 * moved k.records.slots governs siblings)) so-few last)
+
+pub returns-clause-identity : goal.returns-clause-identity
+returns-clause-identity g c =
+    let old = c.args.kept.now in
+    let listed = c.relist_child.new.kept in
+    let noted = c.note_stuck.new.kept in
+    let own = c.settle_named.new.kept in
+    on_ok_weaker c.settle_rest.result (identity-then old own c.settle_rest.new.kept
+    (identity-then old noted own (identity-then old listed noted (identity-records old listed c.relist_child.ensures.records) c.note_stuck.ensures.identity) c.in_ok-settle_named.ensures.identity)) c.settle_rest.ensures.identity

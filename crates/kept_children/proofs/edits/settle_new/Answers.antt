@@ -1,5 +1,6 @@
-use Rattle.std.proofs.Common.{[]}
+use Rattle.std.proofs.Common.{[], refl}
 use Rattle.kept_above.specs.Climbing.{with_outcome}
+use Rattle.kept_below.proofs.Identity.{identity-rewritten, identity-then}
 use Rattle.kept_children.proofs.Counted.{few-less, fewer-less, made-parent, count-written, count-is, settled-midway, settled-attributed, settled-given, counted-all, settled-pair, settled-left}
 use Rattle.kept_children.proofs.edits.settle_new.Goals as goal
 
@@ -72,3 +73,9 @@ returns-clause-left g c =
     count-is c.args.set.now c.args.doc.now c.args.kept.now c.settle_at.new.kept c.args.at.now c.requires.place c.in_ok-settle_at.ensures.settled c.requires.midway.1.beside c.in_ok-settle_at.ensures.beside c.requires.midway.1.made c.count_in.new.kept c.outcome-outcome.result c.outcome-outcome.ensures c.requires.counted c.count_in.ensures.change in
     let counts = with_outcome c.outcome-outcome.result (made-parent c.args.set.now c.args.doc.now c.args.kept.now c.settle_at.new.kept c.args.at.now c.requires.place c.in_ok-settle_at.ensures.settled c.requires.midway.1.beside c.in_ok-settle_at.ensures.beside c.requires.midway.1.made).0.counts in
     settled-left c.args.set.now c.args.doc.now c.args.kept.now c.settle_at.new.kept c.args.at.now c.requires.place c.in_ok-settle_at.ensures.settled c.requires.midway.1.beside c.in_ok-settle_at.ensures.beside c.requires.midway.1.made c.count_in.new.kept counts written is c.args.steps.now c.settle_at.new.steps c.in_ok-settle_at.ensures.left
+
+pub returns-clause-identity : goal.returns-clause-identity
+returns-clause-identity g c =
+    let made = made-parent c.args.set.now c.args.doc.now c.args.kept.now c.settle_at.new.kept c.args.at.now c.requires.place c.in_ok-settle_at.ensures.settled c.requires.midway.1.beside c.in_ok-settle_at.ensures.beside c.requires.midway.1.made in
+    identity-then c.args.kept.now c.settle_at.new.kept c.count_in.new.kept c.in_ok-settle_at.ensures.identity
+    (identity-rewritten c.settle_at.new.kept c.count_in.new.kept c.args.at.now.parent made.0 made.1 _ refl (c.count_in.ensures.change made.0 made.1))

@@ -1,10 +1,14 @@
 use Rattle.std.proofs.Common.{[], sym, subst, ◌∙◌}
+use Rattle.std.proofs.lemmas.Result.{on_ok_weaker}
 use Rattle.compiled_schema.specs.declared.compiled.Compiled.{Compiled}
-use Rattle.child_lists.specs.from_kept_state.Kept.{FitBut, IsBeside}
+use Rattle.child_lists.specs.from_kept_records.Slots.{pair_at}
+use Rattle.child_lists.specs.from_kept_state.Kept.{FitBut, IsBeside, children_at}
 use Rattle.child_lists.specs.from_kept_state.Outcome.{Outcome}
 use Rattle.child_lists.proofs.from_kept_judging.Keeping.{both-ok}
 use Rattle.kept_above.specs.Climbing.{IsClimbing}
 use Rattle.kept_children.specs.Edited.{IsRightFor}
+use Rattle.kept_below.proofs.Identity.{identity-judged, identity-then}
+use Rattle.kept_children.proofs.Climbed.{climbed}
 use Rattle.kept_children.proofs.Ending.{climbing, top-kept}
 use Rattle.kept_children.proofs.edits.settle_parent.Goals as goal
 
@@ -49,3 +53,12 @@ returns-clause-right c =
 
 pub returns-clause-same : goal.returns-clause-same
 returns-clause-same c = c.settle_above.ensures.same ∙ c.in_ok-judge_if_apart.ensures.same
+
+pub returns-clause-identity : goal.returns-clause-identity
+returns-clause-identity c =
+    let old = c.args.kept.now in
+    let mid = c.judge_if_apart.new.kept in
+    let p = c.args.parent in
+    on_ok_weaker c.settle_above.result (λ rest. identity-then old mid c.settle_above.new.kept
+    (identity-judged c.args.set.now c.args.doc.now old mid p (pair_at old.records.slots p) (children_at old.records.slots p) c.in_ok-judge_if_apart.ensures.judged)
+    (climbed mid c.settle_above.new.kept rest)) c.settle_above.ensures.rest

@@ -6,6 +6,7 @@ use Rattle.child_lists.specs.from_kept_state.Kept.{children_at}
 use Rattle.child_lists.specs.from_kept_judging.Judged.{AreChildren}
 use Rattle.child_lists.specs.Family.{IsMidway}
 use Rattle.kept_children.specs.Edited.{IsRightFor}
+use Rattle.kept_below.proofs.Identity.{identity-then}
 use Rattle.kept_children.proofs.Ending.{children-right}
 use Rattle.kept_children.proofs.edits.settle_rest.Goals as goal
 
@@ -33,3 +34,7 @@ returns-clause-right g c =
 
 pub returns-clause-same : goal.returns-clause-same
 returns-clause-same g c = c.settle_parent.ensures.same ∙ c.in_ok-settle_all_marked.ensures.same
+
+pub returns-clause-identity : goal.returns-clause-identity
+returns-clause-identity g c =
+    on_ok_weaker c.settle_parent.result (identity-then c.args.kept.now c.settle_all_marked.new.kept c.settle_parent.new.kept c.in_ok-settle_all_marked.ensures.identity) c.settle_parent.ensures.identity

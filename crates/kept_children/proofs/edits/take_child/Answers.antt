@@ -6,11 +6,13 @@ use Rattle.child_lists.specs.from_kept_state.KeptChildren.{KeptChildren}
 use Rattle.kept_below.specs.Moved.{moved}
 use Rattle.child_lists.specs.Family.{AreGivenBut, IsMidway, symbols_of}
 use Rattle.kept_children.specs.Steps.{digits, marked_count, places_of, width}
+use Rattle.kept_below.proofs.Identity.{identity-then}
+use Rattle.std.proofs.lemmas.Result.{on_ok_weaker}
 use Rattle.kept_children.proofs.Asking.{places-stay}
 use Rattle.kept_children.proofs.Pruned.{pruned-made, pruned-listed, pruned-within}
 use Rattle.kept_children.proofs.Same.{governs-still, count-stays, fewer-steps}
 use Rattle.kept_children.proofs.Siblings.{moved-but-parent}
-use Rattle.kept_children.proofs.Unlisted.{taken-made, taken-counted, taken-pair, taken-rest, taken-all, taken-given, taken-listed, taken-midway, taken-steps, fewer-digits}
+use Rattle.kept_children.proofs.Unlisted.{taken-identity, taken-made, taken-counted, taken-pair, taken-rest, taken-all, taken-given, taken-listed, taken-midway, taken-steps, fewer-digits}
 use Rattle.kept_children.proofs.edits.take_child.Goals as goal
 
 pub children-was-requires : goal.children-was-requires
@@ -96,3 +98,12 @@ returns-clause-steps g c = λ siblings governs below.
     c.note_stuck.ensures.steps
     (subst (λ m. c.settle_rest.new.steps ≤ c.note_stuck.new.steps + (8 * d * m + 3 * moved old.records.slots governs siblings)) few
     (subst (λ m. c.settle_rest.new.steps ≤ c.note_stuck.new.steps + (8 * d * marked_count set ns noted p + 3 * m)) was (c.settle_rest.ensures.steps siblings governs here)))
+
+pub returns-clause-identity : goal.returns-clause-identity
+returns-clause-identity g c =
+    let old = c.args.kept.now in
+    let out = c.count_out.new.kept in
+    let noted = c.note_stuck.new.kept in
+    on_ok_weaker c.settle_rest.result (identity-then old noted c.settle_rest.new.kept (identity-then old out noted
+    (taken-identity c.args.set.now c.args.doc.now c.args.kept.now c.args.taken.0.now c.args.taken.1 c.requires.beside c.requires.pruned c.unlist_child.new.kept c.unlist_child.ensures.records c.count_out.new.kept c.count_out.ensures.change)
+    c.note_stuck.ensures.identity)) c.settle_rest.ensures.identity

@@ -7,6 +7,7 @@ use Rattle.child_lists.specs.from_kept_records.Slots.{pair_at}
 use Rattle.kept_below.specs.Moved.{moved}
 use Rattle.child_lists.specs.Family.{AreGivenBut, IsAttributed, IsListedBy, IsMidway, symbols_of}
 use Rattle.kept_children.specs.Steps.{GovernsBelow, digits, marked_count, places_of, width}
+use Rattle.kept_below.proofs.Identity.{identity-then}
 use Rattle.kept_children.proofs.Asking.{places-stay, places-next, places-ended, places-past, few-marked-children, asked-next, asked-all, asked-stopped}
 use Rattle.kept_children.proofs.marked.settle_all_marked.Goals as goal
 
@@ -17,6 +18,7 @@ loop-number-init g c = record {
   attributed = c.requires.attributed;
   counted = c.requires.counted;
   given = c.requires.given;
+  identity = λ n. refl;
   pair = refl;
   most = omega arith;
   least = omega arith;
@@ -76,6 +78,7 @@ loop-number-preserved g c =
       counted = done.counted;
       given = subst (λ (s : Compiled). AreGivenBut s ns new p (drop (number + 1) places)) inv.same
           (done.given (drop (number + 1) places) (subst (λ (s : Compiled). AreGivenBut s ns k p (place ∷ drop (number + 1) places)) (sym inv.same) (places-next set ns k p places number place here inv.given)));
+      identity = identity-then old k new inv.identity done.identity;
       pair = done.pair ∙ inv.pair;
       most = omega (arith, within);
       least = omega (arith, inv.least, done.least);

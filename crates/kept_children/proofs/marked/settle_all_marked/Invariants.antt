@@ -4,6 +4,7 @@ use Rattle.elem_governing.specs.declared.pairs.Governing.{Governing}
 use Rattle.doc_nodes.specs.Nodes.{element_children}
 use Rattle.child_lists.specs.from_kept_records.Slots.{pair_at}
 use Rattle.child_lists.specs.from_kept_state.KeptChildren.{KeptChildren}
+use Rattle.kept_below.specs.Below.{KeepsIdentity}
 use Rattle.kept_below.specs.Moved.{moved}
 use Rattle.child_lists.specs.Family.{AreCounted, AreGivenBut, IsAttributed, IsMidway}
 use Rattle.kept_children.specs.Steps.{GovernsBelow, digits, marked_count, places_of, width}
@@ -17,6 +18,7 @@ invariant-loop-number g l = record {
   attributed : IsAttributed l.initial.set l.doc l.kept l.parent;
   counted : AreCounted l.kept l.parent (element_children l.doc l.parent);
   given : AreGivenBut l.initial.set l.doc l.kept l.parent (drop l.number (places_of l.initial.set l.doc l.initial.kept l.parent));
+  identity : KeepsIdentity l.initial.kept l.kept;
   pair : pair_at l.kept.records.slots l.parent ≡ pair_at l.initial.kept.records.slots l.parent;
   most : l.number ≤ marked_count l.initial.set l.doc l.initial.kept l.parent;
   least : l.initial.steps ≤ l.steps;

@@ -1,5 +1,6 @@
-use Rattle.std.proofs.Common.{[]}
+use Rattle.std.proofs.Common.{[], refl}
 use Rattle.kept_above.specs.Climbing.{with_outcome}
+use Rattle.kept_below.proofs.Identity.{identity-rewritten, identity-then}
 use Rattle.kept_children.proofs.Counted.{others, counted-as, few-before, fewer-before, made-parent, recount-written, recount-is, settled-midway, settled-attributed, settled-given, recounted-all, settled-pair, settled-left}
 use Rattle.kept_children.proofs.marked.settle_marked.Goals as goal
 
@@ -79,3 +80,10 @@ returns-clause-left g c =
     recount-is c.args.set.now c.args.doc.now c.args.kept.now c.settle_at.new.kept c.args.at.now c.requires.place c.in_ok-settle_at.ensures.settled c.requires.midway.1.beside c.in_ok-settle_at.ensures.beside c.requires.midway.1.made c.recount.new.kept c.outcome-was.result c.outcome-now.result c.outcome-was.ensures c.outcome-now.ensures c.requires.counted c.recount.ensures.change in
     let counts = with_outcome c.outcome-now.result (others c.args.set.now c.args.doc.now c.args.kept.now c.settle_at.new.kept c.args.at.now c.requires.place c.in_ok-settle_at.ensures.settled c.requires.midway.1.beside c.in_ok-settle_at.ensures.beside c.requires.midway.1.made) in
     settled-left c.args.set.now c.args.doc.now c.args.kept.now c.settle_at.new.kept c.args.at.now c.requires.place c.in_ok-settle_at.ensures.settled c.requires.midway.1.beside c.in_ok-settle_at.ensures.beside c.requires.midway.1.made c.recount.new.kept counts written is c.args.steps.now c.settle_at.new.steps c.in_ok-settle_at.ensures.left
+
+pub returns-clause-identity : goal.returns-clause-identity
+returns-clause-identity g c =
+    let made = made-parent c.args.set.now c.args.doc.now c.args.kept.now c.settle_at.new.kept c.args.at.now c.requires.place c.in_ok-settle_at.ensures.settled c.requires.midway.1.beside c.in_ok-settle_at.ensures.beside c.requires.midway.1.made in
+    identity-then c.args.kept.now c.settle_at.new.kept c.recount.new.kept c.in_ok-settle_at.ensures.identity
+    (identity-rewritten c.settle_at.new.kept c.recount.new.kept c.args.at.now.parent made.0 made.1 _ refl
+    (recount-written c.args.set.now c.args.doc.now c.args.kept.now c.settle_at.new.kept c.args.at.now c.requires.place c.in_ok-settle_at.ensures.settled c.requires.midway.1.beside c.in_ok-settle_at.ensures.beside c.requires.midway.1.made c.recount.new.kept c.outcome-was.result c.outcome-now.result c.outcome-was.ensures c.outcome-now.ensures c.requires.counted c.recount.ensures.change))

@@ -6,7 +6,8 @@ use Rattle.doc_inverses.specs.Changes.{Means}
 use Rattle.doc_inverses.specs.declared.change.Change.{Change}
 use Rattle.doc_inverses.proofs.Meaning.{takes}
 use Rattle.kept_changes.proofs.Following.{changed-beside}
-use Rattle.kept_inverses.proofs.Following.{inverse-at, inverse-takes, pruned-inverse, takes-out, take-below, take-fits}
+use Rattle.kept_changes.specs.declared.change.Spot.TheVariants.{Pruned}
+use Rattle.kept_inverses.proofs.Following.{inverse-at, inverse-turned, inverse-takes, pruned-inverse, takes-out, take-below, take-fits}
 use Rattle.kept_inverses.proofs.change.keep_inverse.Goals as goal
 
 pub spot_of-requires : goal.spot_of-requires
@@ -103,3 +104,23 @@ returns-in_err-follow-in_default-clause-reach g c = λ d own z means fits.
 
 pub returns-in_err-back-in_default-clause-reach : goal.returns-in_err-back-in_default-clause-reach
 returns-in_err-back-in_default-clause-reach g c = λ d own z means fits. inl (c.in_err-back-in_default.ensures.err, refl)
+
+pub returns-in-Pruned-clause-identity : goal.returns-in-Pruned-clause-identity
+returns-in-Pruned-clause-identity g c = on_ok_weaker c.take.result (λ same n out. same n (λ within. out (c.in-Pruned.node, c.in-Pruned.ensures, within))) c.take.ensures.identity
+
+pub returns-in_ok-follow-in_default-clause-identity : goal.returns-in_ok-follow-in_default-clause-identity
+returns-in_ok-follow-in_default-clause-identity g c = λ n out. c.in_ok-follow-in_default.ensures.identity n
+
+pub returns-in-Pruned-clause-turned : goal.returns-in-Pruned-clause-turned
+returns-in-Pruned-clause-turned g c = on_ok_weaker c.take.result (λ goes. (Pruned c.in-Pruned.node, c.in-Pruned.ensures, goes)) c.take.ensures.turned
+
+pub returns-in_ok-follow-in_default-clause-turned : goal.returns-in_ok-follow-in_default-clause-turned
+returns-in_ok-follow-in_default-clause-turned g c =
+    let q = c.requires.can in
+    let set = c.args.set.now in
+    let made = c.in_ok-back-in_default.ensures in (
+      c.spot_of.result,
+      c.spot_of.ensures,
+      inverse-turned set c.args.doc.now c.change.new.self c.args.kept.now c.requires.right q.0 q.2 c.change.ensures.sound q.1 c.args.change c.spot_of.result c.spot_of.ensures c.in_default.not-Pruned q.3 q.4
+          (made.nodes set.names q.0 q.1 q.2 q.3 q.4),
+    )

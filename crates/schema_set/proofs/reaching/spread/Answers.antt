@@ -1,4 +1,4 @@
-use Rattle.std.proofs.Common.{◌≡◌, ◌<◌, ◌*◌, ◌++◌, ◌∷◌, ◌∙◌, [], Some, ap, subst, length, length-set, true, arith}
+use Rattle.std.proofs.Common.{◌≡◌, ◌<◌, ◌*◌, ◌++◌, ◌∷◌, ◌∙◌, [], Some, sym, ap, subst, length, length-set, true, arith}
 use Rattle.std.proofs.lemmas.List.Elements.{All-nil, All-push, All-pop}
 use Rattle.schema_set.proofs.MarkLaws.{reach-begun, reach-more, reach-done}
 use Rattle.schema_set.proofs.ReachLaws.{following-below}
@@ -8,12 +8,13 @@ pub loop-y-init : goal.loop-y-init
 loop-y-init c =
     let seen = c.args.seen.now in
     let all = length c.args.sources.now.available.now * length c.args.sources.now.available.now in
-    let is : c.push.new.self.items ≡ [] ++ 0 ∷ [] = c.in_ok-push.ensures.items ∙ ap (λ l. l ++ 0 ∷ []) c.new-todo.ensures.items in
-    let some : 0 < all = subst (λ n. 0 < n) c.requires.len c.requires.some in
+    let first = c.own_number-first.result in
+    let is : c.push.new.self.items ≡ [] ++ first ∷ [] = c.in_ok-push.ensures.items ∙ ap (λ l. l ++ first ∷ []) c.new-todo.ensures.items in
+    let within : first < length seen = subst (λ n. first < n) (sym c.requires.len) c.own_number-first.ensures.within in
     record {
-      len = length-set seen 0 true ∙ c.requires.len;
-      todo = rw is (All-push (λ y. y < all) [] 0 (All-nil (λ y. y < all)) some);
-      reach = reach-begun c.args.sources.now.available.now seen c.push.new.self.items c.requires.none c.requires.some is;
+      len = length-set seen first true ∙ c.requires.len;
+      todo = rw is (All-push (λ y. y < all) [] first (All-nil (λ y. y < all)) c.own_number-first.ensures.within);
+      reach = reach-begun c.args.sources.now.available.now c.args.start first c.own_number-first.ensures.own seen c.push.new.self.items c.requires.none within is;
     }
 
 pub following-requires-clause-there : goal.following-requires-clause-there
@@ -36,10 +37,10 @@ pub loop-y-preserved : goal.loop-y-preserved
 loop-y-preserved c = record {
   len = omega (arith, c.loop-y.invariant.len);
   todo = rw c.loop-y.invariant.len at c.in_ok-mark.ensures.todo;
-  reach = reach-more c.args.sources.now.available.now c.in-Some.y c.loop-y.seen c.mark.new.seen c.pop.new.self.items c.mark.new.todo.items
+  reach = reach-more c.args.sources.now.available.now c.args.start c.in-Some.y c.loop-y.seen c.mark.new.seen c.pop.new.self.items c.mark.new.todo.items
       (rw c.in-Some.ensures.items at c.loop-y.invariant.reach)
       (rw (c.deref.ensures.value, c.in_ok-next.ensures) at c.in_ok-mark.ensures.marking) (rw (c.deref.ensures.value, c.in_ok-next.ensures) at c.in_ok-mark.ensures.all);
 }
 
 pub returns : goal.returns
-returns c = record { reached = reach-done c.args.sources.now.available.now c.loop-y.seen c.loop-y.todo.items (omega (arith, c.loop-y.todo.ok.0, c.in_default.ensures.cases.0)) c.loop-y.invariant.reach }
+returns c = record { reached = reach-done c.args.sources.now.available.now c.args.start c.loop-y.seen c.loop-y.todo.items (omega (arith, c.loop-y.todo.ok.0, c.in_default.ensures.cases.0)) c.loop-y.invariant.reach }

@@ -7,7 +7,7 @@ abbrev pub invariant-loop-y : goal.invariant-loop-y
 invariant-loop-y l = record {
   len : length l.seen ≡ length l.sources.available.now * length l.sources.available.now;
   todo : All (λ y. y < length l.sources.available.now * length l.sources.available.now) l.todo.items;
-  reach : IsReach l.sources.available.now l.seen l.todo.items;
+  reach : IsReach l.sources.available.now l.start l.seen l.todo.items;
 }
 
 abbrev pub decreases-loop-y : goal.decreases-loop-y

@@ -3,8 +3,8 @@ use Rattle.identity_carry.specs.Tables.{parent_in}
 use Rattle.counted_keys.proofs.Parents.{set-here, set-others}
 use Rattle.counted_keys.proofs.keys.CountedKeys.set_parent.Goals as goal
 
-pub returns : goal.returns
-returns c =
+pub returns-clause-parent : goal.returns-clause-parent
+returns-clause-parent c =
     let n = c.args.number in
     let made = c.reach.new.parents.items in
     record {

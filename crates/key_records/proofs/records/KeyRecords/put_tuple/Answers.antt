@@ -1,4 +1,4 @@
-use Rattle.key_records.proofs.OwnLaws.{all-matched, put-own, rest-is, settled-again}
+use Rattle.key_records.proofs.OwnLaws.{all-matched, bare-again, put-own, rest-is, settled-again}
 use Rattle.key_records.proofs.records.KeyRecords.put_tuple.Goals as goal
 
 pub rematch-requires-clause-once : goal.rematch-requires-clause-once
@@ -19,4 +19,5 @@ returns c =
       own = put-own refs old middle new c.args.scope k tuple first.changed again.rematched first.own;
       matched = all-matched refs old middle new c.args.scope k tuple first.changed again.rematched again.matched;
       rest = rest-is refs old middle new c.args.scope k tuple first.changed again.rematched;
+      bare = bare-again refs old middle new c.args.scope k tuple first.changed again.rematched;
     }

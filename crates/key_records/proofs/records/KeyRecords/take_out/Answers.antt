@@ -52,4 +52,4 @@ returns-in_ok-take_tuple-in-Some c = λ t counted linked parents records.
     take-target t refs counted c.args.self.now middle new target.scope target.constraint c.in-Some.tuple target.misused target.nillable step.rest.1
     (subst (λ (f : TargetFaults). AreMoreFaults faults c.args.self.now.faults target.scope target.constraint f) (c.faults.ensures ∙ ap (λ (o : Option (List Key)). record { misused = target.misused; lacking = is_none o; nillable = target.nillable }) c.in-Some.is) c.in_ok-remove.ensures)
     (subst (λ (o : Option (List Key)). AreRecords t refs (plus counted (one_target target.scope target.constraint o target.misused target.nillable)) c.args.self.now) c.in-Some.is records) step.own
-    (step.settled t linked parents records.settled) (step.matched records.matched) step.rest.0
+    (step.settled t linked parents records.settled) (step.matched records.matched) step.rest.0 (step.bare records.bare)

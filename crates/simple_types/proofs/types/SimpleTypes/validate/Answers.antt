@@ -16,7 +16,7 @@ returns-in-Builtin-clause-value c = λ t ranked are whole.
     let types_of = c.args.self.now in
     let by_kind : (content_of types_of.simples types_of.complexes c.args.of).facets ≡ c.of_builtin-facets.result =
     ap (λ of. (content_of types_of.simples types_of.complexes of).facets) c.in-Builtin.is ∙ sym c.of_builtin-facets.ensures in
-    c.value_by.ensures.value (type_tree t c.args.of) (subst (λ (f : Facets). IsMade (type_tree t c.args.of) f) by_kind (type_is_made t ranked types_of are c.args.of whole))
+    c.value_by.ensures (type_tree t c.args.of) (subst (λ (f : Facets). IsMade (type_tree t c.args.of) f) by_kind (type_is_made t ranked types_of are c.args.of whole))
 
 pub returns-in-Simple-clause-value : goal.returns-in-Simple-clause-value
 returns-in-Simple-clause-value c = λ t ranked are whole.
@@ -24,9 +24,9 @@ returns-in-Simple-clause-value c = λ t ranked are whole.
     let made : IsMadeAt (type_tree t (types.Simple c.in-Simple.id)) types_of.simples c.in-Simple.id =
     simple_is_made t ranked types_of are c.in-Simple.id (subst (IsWhole types_of) c.in-Simple.is whole) in
     let tree = subst (λ of. IsMadeAt (type_tree t of) types_of.simples c.in-Simple.id) (sym c.in-Simple.is) made in
-    c.value_in.ensures.value (type_tree t c.args.of)
-    (subst (λ n. IsMadeAt (type_tree t c.args.of) c.as_mut_slice.result.now n) (sym c.number.ensures)
-    (subst (λ (table : List JudgedType). IsMadeAt (type_tree t c.args.of) table c.in-Simple.id) (sym c.as_mut_slice.ensures.value) tree))
+    c.value_in.ensures (type_tree t c.args.of)
+    (subst (λ n. IsMadeAt (type_tree t c.args.of) c.as_slice.result.now n) (sym c.number.ensures)
+    (subst (λ (table : List JudgedType). IsMadeAt (type_tree t c.args.of) table c.in-Simple.id) (sym c.as_slice.ensures) tree))
 
 pub returns-in-Complex-clause-value : goal.returns-in-Complex-clause-value
 returns-in-Complex-clause-value c = λ t ranked are whole.
@@ -34,6 +34,6 @@ returns-in-Complex-clause-value c = λ t ranked are whole.
     let made : IsMadeAt (type_tree t (types.Complex c.in-Complex.id)) types_of.complexes c.in-Complex.id =
     content_is_made t ranked types_of are c.in-Complex.id (subst (IsWhole types_of) c.in-Complex.is whole) in
     let tree = subst (λ of. IsMadeAt (type_tree t of) types_of.complexes c.in-Complex.id) (sym c.in-Complex.is) made in
-    c.value_in-in-Complex.ensures.value (type_tree t c.args.of)
-    (subst (λ n. IsMadeAt (type_tree t c.args.of) c.as_mut_slice-in-Complex.result.now n) (sym c.number-in-Complex.ensures)
-    (subst (λ (table : List JudgedType). IsMadeAt (type_tree t c.args.of) table c.in-Complex.id) (sym c.as_mut_slice-in-Complex.ensures.value) tree))
+    c.value_in-in-Complex.ensures (type_tree t c.args.of)
+    (subst (λ n. IsMadeAt (type_tree t c.args.of) c.as_slice-in-Complex.result.now n) (sym c.number-in-Complex.ensures)
+    (subst (λ (table : List JudgedType). IsMadeAt (type_tree t c.args.of) table c.in-Complex.id) (sym c.as_slice-in-Complex.ensures) tree))
