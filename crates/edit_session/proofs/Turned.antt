@@ -2,6 +2,8 @@
 use Rattle.std.proofs.Common.{◌≡◌, ◌≢◌, ◌⊎◌, ℕ, zero, suc, ◌<◌, ◌≤◌, List, [], ◌∷◌, ◌++◌, cond, Bool, true, false, Option, None, Some, refl, sym, ap, ◌∙◌, subst, inl, inr, arith}
 use Rattle.std.specs.Prelude.{¬◌, filter, flat_map, insert, remove, slice_get}
 use Rattle.std.specs.Option.{option_and_then}
+use Rattle.std.specs.declared.alloc.Global.{Global}
+use Rattle.std.specs.declared.vec.Vec.{Vec}
 use Rattle.std.proofs.lemmas.Bool.{cases_eq, false≢true}
 use Rattle.std.proofs.lemmas.Option.{none-some, same_Some}
 use Rattle.xs_names.specs.Names.{NameTable}
@@ -26,6 +28,7 @@ use Rattle.kept_inverses.proofs.from_kept_children.Still.{IsStill, still-node, s
 use Rattle.kept_inverses.proofs.from_kept_forgetting.Placed.{has-at, parent-has, parent-element, root-alone}
 use Rattle.kept_inverses.proofs.from_kept_forgetting.Walks.{self-within, below-within, parent-of}
 use Rattle.kept_inverses.proofs.from_kept_records.Nodes.{by-node}
+use Rattle.kept_keys.specs.from_kept_targets.Moved.{Adds}
 use Rattle.kept_keys.specs.from_kept_targets.Turn.{Turn}
 use Rattle.kept_keys.specs.from_kept_targets.Turn.TheVariants as turns
 use Rattle.kept_keys.specs.from_kept_targets.Turned.{Stays, Turns, listed_of}
@@ -348,3 +351,36 @@ module _ (t : NameTable) (old new : Nodes) (d e : Document) (z : StandsFor t old
   turns-at (Retexted n) h turn is = subst (Turns old new) (sym is) (own-turns old new n h.0 h.1.elements h.1.names (λ m there other. h.1.attributes m there) h.1.texts)
   turns-at (Attributed n) h turn is = subst (Turns old new) (sym is) (own-turns old new n h.0 h.1.elements h.1.names h.1.attributes (λ m there other. h.1.texts m there))
   turns-at (Renamed n) h turn is = subst (Turns old new) (sym is) (named-turns old new n h.0 h.1)
+
+-- ---- the elements at and below one
+
+numbers-within : (ns : Nodes) → IsSound ns → (n : ℕ) (numbers : List ℕ) → Adds ns [] numbers (λ m. m ≡ n) → (levels m : ℕ) → depth_by (node ns m) ≤ levels → Has m numbers → IsWithin ns n m
+numbers-within ns sound n numbers adds zero m high h = elim (adds.only m h) [
+  | inl bad ↦ absurd bad
+  | inr new ↦ elim new.1 [ inl own ↦ (0, ap Some own) | inr up ↦ let deep = depth_below ns up.0 m sound up.1 in absurd (omega (arith, deep, high)) ]
+]
+numbers-within ns sound n numbers adds (suc levels) m high h = elim (adds.only m h) [
+  | inl bad ↦ absurd bad
+  | inr new ↦ elim new.1 [
+    | inl own ↦ (0, ap Some own)
+    | inr up ↦
+        let deep = depth_below ns up.0 m sound up.1 in
+        let above = numbers-within ns sound n numbers adds levels up.0 (omega (arith, deep, high)) up.2 in
+        (suc above.0, ap (option_and_then (upwards ns above.0)) up.1 ∙ above.1)
+  ]
+]
+
+pub gone-is : (ns : Nodes) → IsSound ns → (n parent : ℕ) → parent_at ns n ≡ Some parent → (numbers : Vec ℕ Global) → ((m : ℕ) → is_element_at ns m ≡ true → IsWithin ns n m → Has m numbers.items)
+    → (first : List ℕ) → first ≡ [] → Adds ns first numbers.items (λ m. m ≡ n) → IsGone ns n (turns.Gone parent numbers)
+gone-is ns sound n parent up numbers all first empty some =
+    let adds : Adds ns [] numbers.items (λ m. m ≡ n) = subst (λ (xs : List ℕ). Adds ns xs numbers.items (λ m. m ≡ n)) empty some in
+    record {
+      parent = parent;
+      parent_is = up;
+      numbers = numbers;
+      those = λ m. ((λ h. (is-one adds m h, numbers-within ns sound n numbers.items adds (depth_by (node ns m)) m (omega arith) h)), (λ both. all m both.0 both.1));
+      is = refl;
+    }
+  where
+    is-one : Adds ns [] numbers.items (λ m. m ≡ n) → (m : ℕ) → Has m numbers.items → is_element_at ns m ≡ true
+    is-one adds m h = elim (adds.only m h) [ inl bad ↦ absurd bad | inr new ↦ new.0 ]

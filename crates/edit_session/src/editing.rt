@@ -7,9 +7,9 @@ ghost use Rattle.tree_edits.specs.Tests.{edited};
 ghost use Rattle.session_model.specs.Spending.{BreaksWithin};
 ghost use Rattle.doc_changes.specs.Stands.{StandsFor};
 ghost use Rattle.doc_edits.specs.Changes.{CanMake, changed};
-ghost use Rattle.kept_inverses.specs.from_kept_children.Edited.{IsRightFor};
 ghost use Rattle.kept_inverses.specs.from_kept_changes.Steps.{Takes};
 ghost use Rattle.kept_keys.specs.Keys.{AreTargetsBy};
+ghost use Rattle.kept_keys.specs.from_kept_targets.TargetKeys.{TargetKeys as TargetKeysData};
 ghost use Rattle.tree_edits.specs.declared.edit.EditError.TheVariants.{Memory};
 ghost use Rattle.edit_session.specs.Costs.{edit_cost};
 ghost use Rattle.edit_session.specs.Edited.{IsDone, IsLeft, IsReady, IsRefused};
@@ -28,7 +28,7 @@ use doc_inverses::Change as Inverse;
 use doc_tree::DocTree;
 use edit_inverses::inverse_of;
 use kept_inverses::kept_changes::{keep_change, spot_of, records_stay_right_as_names_are_added};
-use kept_keys::{TargetKeys, settle_keys};
+use kept_keys::{TargetKeys, keys_stay_right_as_names_are_added, settle_keys};
 use kept_inverses::kept_state::KeptState;
 use std::alloc::AllocError;
 use tree_edits::{Edit, EditError};
@@ -42,12 +42,14 @@ fn ready(
     edit: &Edit,
 ) -> Result<Change, EditError>
     requires block { can_be_made edit.now ≡ true }
-    requires right { IsRightFor set.old doc.now kept.now }
+    requires present { IsPresent set.old doc.now kept.now }
     ensures stands { Stands set.new doc.now }
     ensures ready { IfOk result (λ change. IsReady set.old set.new doc.now kept.now edit.now change) }
+    ensures targets { (keys : TargetKeysData) → AreTargetsBy set.old doc.now kept.now.records.slots keys → AreTargetsBy set.new doc.now kept.now.records.slots keys }
     ensures refused { IfErr result (λ e. IsRefused set.old set.new doc.now edit.now e) }
 {
     records_stay_right_as_names_are_added();
+    keys_stay_right_as_names_are_added();
     prepare(kept.alloc, doc, &mut set.names, edit)
 }
 
@@ -60,7 +62,7 @@ fn make<L: Ledger>(
     change: Change,
     steps: &mut Steps<L>,
 ) -> Result<(), AllocError>
-    requires right { IsRightFor set.old doc.old kept.old }
+    requires present { IsPresent set.old doc.old kept.old }
     requires targets { AreTargetsBy set.old doc.old kept.old.records.slots keys.old }
     requires can { (d : Document) × StandsFor set.old.names doc.old d × CanMake set.old.names doc.old d change }
     ensures made { OnOk result ((d : Document) → StandsFor set.old.names doc.old d → StandsFor set.old.names doc.new (changed set.old.names d change)) }
@@ -85,7 +87,7 @@ fn make_undoable<L: Ledger>(
     change: Change,
     steps: &mut Steps<L>,
 ) -> Result<Inverse, AllocError>
-    requires right { IsRightFor set.old doc.old kept.old }
+    requires present { IsPresent set.old doc.old kept.old }
     requires targets { AreTargetsBy set.old doc.old kept.old.records.slots keys.old }
     requires can { (d : Document) × StandsFor set.old.names doc.old d × CanMake set.old.names doc.old d change }
     ensures made { OnOk result ((d : Document) → StandsFor set.old.names doc.old d → StandsFor set.old.names doc.new (changed set.old.names d change)) }

@@ -1,13 +1,14 @@
 -- Codes by the numbers of elements, of which no two have one.
-use Rattle.std.proofs.Common.{◌≡◌, ℕ, ◌+◌, ◌≤◌, ◌==◌, Bool, true, false, if◌then◌else◌, List, [], ◌∷◌, ◌++◌, map, refl, sym, ap, ◌∙◌, arith, append-nil}
+use Rattle.std.proofs.Common.{◌≡◌, ℕ, ◌+◌, ◌≤◌, ◌==◌, Bool, true, false, if◌then◌else◌, inl, inr, List, [], ◌∷◌, ◌++◌, map, refl, sym, ap, ◌∙◌, arith, append-nil}
 use Rattle.std.proofs.lemmas.Bool.{eq-eqb}
 use Rattle.std.proofs.lemmas.List.{map-append}
 use Rattle.xs_names.specs.Names.{NameTable}
 use Rattle.xs_codes.specs.declared.fault.Found.{Found}
 use Rattle.xs_components.specs.Tables.{Tables}
 use Rattle.identity_paths.specs.declared.paths.IdentityPaths.{IdentityPaths}
-use Rattle.identity_constraints.specs.Seen.{KeyForest, none, element}
+use Rattle.identity_constraints.specs.Seen.{KeyElement, KeyForest, none, element}
 use Rattle.identity_constraints.specs.Satisfied.{identity_codes, identity_at}
+use Rattle.scope_targets.specs.Targetings.{HasWithin}
 use Rattle.forest_keys.specs.Codes.{all_codes}
 use Rattle.kept_targets.specs.Seen.{numbers_in}
 
@@ -67,3 +68,34 @@ module _ (names : NameTable) (t : Tables) (identities : List IdentityPaths) wher
   -- so they are those by number
   pub codes-by-number : (f : KeyForest) → ((n : ℕ) → seen_times n f ≤ 1) → all_codes names t identities f ≡ map (at f) (numbers_in f)
   codes-by-number f once = codes-for (at f) f once (λ n has. refl)
+
+  -- an element that is there is counted
+  within-times : (own : KeyElement) (below : KeyForest) (f : KeyForest) → HasWithin own below f → 1 ≤ seen_times own.number f
+  within-times own below none h = absurd h
+  within-times own below (element other under next) (inl e) =
+      let one : weight (other.number == own.number) ≡ 1 = ap (λ (x : KeyElement). weight (x.number == own.number)) e.0 ∙ ap weight (eq-eqb own.number own.number refl) in
+      omega (arith, one)
+  within-times own below (element other under next) (inr (inl h)) = let some = within-times own below under h in omega (arith, some)
+  within-times own below (element other under next) (inr (inr h)) = let some = within-times own below next h in omega (arith, some)
+
+  -- the codes by its number are its own
+  pub codes-within : (own : KeyElement) (below : KeyForest) (f : KeyForest) → ((n : ℕ) → seen_times n f ≤ 1) → HasWithin own below f → at f own.number ≡ identity_codes names t identities own below
+  codes-within own below none once h = absurd h
+  codes-within own below (element other under next) once (inl e) =
+      let codes = identity_codes names t identities own below in
+      let here : weight (own.number == own.number) ≡ 1 = ap weight (eq-eqb own.number own.number refl) in
+      let same : weight (other.number == own.number) ≡ 1 = ap (λ (x : KeyElement). weight (x.number == own.number)) e.0 ∙ here in
+      let none-below = none-at own.number under (omega (arith, same, once own.number)) in
+      let none-next = none-at own.number next (omega (arith, same, once own.number)) in
+      (λ i. (if (e.0 i).number == own.number then identity_codes names t identities (e.0 i) (e.1 i) else []) ++ (none-below i ++ none-next i))
+      ∙ (λ i. own-first own.number codes i ++ ([] ++ [])) ∙ append-nil codes
+  codes-within own below (element other under next) once (inr (inl h)) =
+      let some = within-times own below under h in
+      let first = none-of other.number own.number (identity_codes names t identities other under) (omega (arith, some, once own.number)) in
+      let behind = none-at own.number next (omega (arith, some, once own.number)) in
+      (λ i. first i ++ (at under own.number ++ behind i)) ∙ append-nil (at under own.number) ∙ codes-within own below under (λ n. omega (arith, once n)) h
+  codes-within own below (element other under next) once (inr (inr h)) =
+      let some = within-times own below next h in
+      let first = none-of other.number own.number (identity_codes names t identities other under) (omega (arith, some, once own.number)) in
+      let inner = none-at own.number under (omega (arith, some, once own.number)) in
+      (λ i. first i ++ (inner i ++ at next own.number)) ∙ codes-within own below next (λ n. omega (arith, once n)) h

@@ -2,6 +2,8 @@ mod Lists
 mod Coding
 mod Found
 mod Counted
+mod Grown
+mod Filled
 mod Numbered
 mod Whole
 mod Plain

@@ -10,6 +10,9 @@ ghost use Rattle.kept_keys.specs.Keys.{AreTargets, IsWhole, WereTargets, codes_a
 
 use assess_records::Codes;
 use compiled_schema::Compiled;
+use counted_keys::{
+    counted_targets_are_the_outcomes, counts_stay_as_links_change, parents_give_links,
+};
 use doc_tree::DocTree;
 use forest_keys::{Counting, element_codes};
 use kept_above::kept_state::KeptState;
@@ -33,9 +36,13 @@ fn codes_by(
     node: u32,
 ) -> Result<Codes, AllocError>
     requires made { IsMade kept.now.records.slots node }
+    requires targets { (ns : Nodes) × AreTargets set.now ns kept.now.records.slots keys.now }
     ensures { IfOk result (λ codes. (ns : Nodes) (d : Document) → IsWhole set.now ns kept.now → AreTargets set.now ns kept.now.records.slots keys.now → IsOver set.now ns kept.now.records.slots d
         → codes ≡ codes_at set.now (seen (found_in ns kept.now.records.slots d.forest)) node) }
 {
+    counted_targets_are_the_outcomes();
+    counts_stay_as_links_change();
+    parents_give_links();
     let counted = &keys.counted;
     let by = Counting {
         set: KeySet {
@@ -61,6 +68,7 @@ fn codes_each(
     numbers: &[u32],
 ) -> Result<Vec<Codes>, AllocError>
     requires made { All (IsMade kept.now.records.slots) numbers.now }
+    requires targets { (ns : Nodes) × AreTargets set.now ns kept.now.records.slots keys.now }
     ensures { IfOk result (λ codes. (ns : Nodes) (d : Document) → IsWhole set.now ns kept.now → AreTargets set.now ns kept.now.records.slots keys.now → IsOver set.now ns kept.now.records.slots d
         → codes.items ≡ map (codes_at set.now (seen (found_in ns kept.now.records.slots d.forest))) numbers.now) }
 {
