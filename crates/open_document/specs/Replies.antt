@@ -95,7 +95,7 @@ no_section = refusal 33 (codes "NoSection")
 -- code
 abbrev pub set_refused : Fault → List ℕ
 set_refused fault =
-    refusal 34 (codes "SetRefused " ++ decimal fault.document ++ codes " " ++ decimal fault.item ++ codes " " ++ text_of fault.code)
+    codes "no 34 SetRefused " ++ decimal fault.document ++ codes " " ++ decimal fault.item ++ codes " " ++ text_of fault.code ++ 10 ∷ []
 
 -- ---- what is told
 
