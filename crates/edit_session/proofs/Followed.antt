@@ -1,6 +1,5 @@
 -- What is counted of targets before a change, and what the change makes of the document.
 use Rattle.std.proofs.Common.{◌≡◌, ◌≢◌, ℕ, List, [], ◌∷◌, true, None, sym, ap, ◌∙◌, subst, inr}
-use Rattle.std.specs.Prelude.{¬◌}
 use Rattle.std.proofs.lemmas.Option.{same_Some}
 use Rattle.xs_names.specs.Names.{NameTable}
 use Rattle.tree_rows.specs.Forest.{Document}

@@ -1,5 +1,5 @@
 -- Which element a change begins at, and what is another there once it is made.
-use Rattle.std.specs.Prelude.{◌≡◌, ℕ, ¬◌, length, true, false, Some}
+use Rattle.std.specs.Prelude.{◌≡◌, ℕ, length, true, false, Some}
 use Rattle.tree_rows.specs.Whole.{IsTree}
 use Rattle.compiled_schema.specs.declared.compiled.Compiled.{Compiled}
 use Rattle.doc_nodes.specs.Nodes.{Nodes, is_element_at}
