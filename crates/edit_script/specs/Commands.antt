@@ -82,6 +82,10 @@ unset rest = number_and_name rest >>= λ it. Ok (edits.UnsetAttr it.node it.name
 abbrev pub assess : Option (List ℕ) → Result Command ScriptFault
 assess rest = only_number rest >>= λ node. Ok (commands.Assess node)
 
+-- `swap K`
+abbrev pub swap : Option (List ℕ) → Result Command ScriptFault
+swap rest = only_number rest >>= λ section. Ok (commands.Swap section)
+
 -- nothing stands behind the word
 abbrev pub no_field : Option (List ℕ) → Result (Unit {0}) ScriptFault
 no_field None = Ok tt
@@ -97,7 +101,7 @@ next rest =
     needed rest >>= λ more. needed (split more) >>= λ parts. last parts.1 >>= λ second.
     number parts.0 >>= λ parent. number second >>= λ place. Ok (commands.Next parent place)
 
--- a question, or a step in the history
+-- a question, a step in the history, or another set
 abbrev pub by_other_word : List ℕ → Option (List ℕ) → Result Command ScriptFault
 by_other_word word rest =
     if bytes_eq word (codes "assess") then assess rest
@@ -107,7 +111,8 @@ by_other_word word rest =
     else (if bytes_eq word (codes "undo") then alone commands.Undo rest
     else (if bytes_eq word (codes "redo") then alone commands.Redo rest
     else (if bytes_eq word (codes "next") then next rest
-    else Err UnknownCommand))))))
+    else (if bytes_eq word (codes "swap") then swap rest
+    else Err UnknownCommand)))))))
 
 -- the first words of edits
 abbrev pub is_edit : List ℕ → Bool
@@ -165,6 +170,7 @@ IsReady commands.Total = Unit {0}
 IsReady commands.Undo = Unit {0}
 IsReady commands.Redo = Unit {0}
 IsReady (commands.Next parent index) = Unit {0}
+IsReady (commands.Swap section) = Unit {0}
 IsReady (commands.Turn author seen edit) = can_be_made edit ≡ true
 
 abbrev pub IsReadyOr : Result Command ScriptFault → Type 0

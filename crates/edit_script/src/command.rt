@@ -22,6 +22,8 @@ pub enum Command {
     Redo,
     /// `next P I`: a question for the names that may stand before the child at a place of an element.
     Next { parent: u32, index: u32 },
+    /// `swap K`: another schema set, which starts at a schema section.
+    Swap(u32),
     /// `as A V EDIT`: a change of the tree by an author who had seen a revision.
     Turn { author: u32, seen: u64, edit: Edit },
 }

@@ -210,7 +210,7 @@ fn no_field(rest: Option<&str>) -> Result<(), ScriptFault>
     }
 }
 
-/// What a line says whose word is not that of an edit: a question, or a step in the history.
+/// What a line says whose word is not that of an edit: a question, a step in the history, or another set.
 fn read_other(word: &str, rest: Option<&str>) -> Result<Command, ScriptFault>
     ensures gives { result ≡ script.by_other_word word.now (option_copied rest.entry) }
     ensures ready { IfOk result script.IsReady }
@@ -234,6 +234,8 @@ fn read_other(word: &str, rest: Option<&str>) -> Result<Command, ScriptFault>
         Ok(Command::Redo)
     } else if word == "next" {
         read_next(rest)
+    } else if word == "swap" {
+        Ok(Command::Swap(only_number(rest)?))
     } else {
         Err(ScriptFault::UnknownCommand)
     }

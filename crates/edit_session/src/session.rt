@@ -3,6 +3,7 @@ ghost use Rattle.std.specs.Prelude.{◌≡◌};
 use crate::around::{AroundError, find_place};
 use crate::editing::edit_kept;
 use crate::opening::open_document;
+use crate::reopening::reopen_document;
 use crate::undoing::change_kept;
 use assess_records::Validity;
 use compiled_schema::Compiled;
@@ -61,6 +62,9 @@ impl EditSession {
     ghost use Rattle.edit_session.specs.Costs.{edit_cost};
     ghost use Rattle.edit_session.specs.Changed.{forgotten, CanChange, Changes, SpendsOn};
     ghost use Rattle.edit_session.specs.Parents.{parent_of};
+    ghost use Rattle.compiled_schema.specs.Usable.{IsUsable, set_of};
+    ghost use Rattle.session_model.specs.Spending.{Counts};
+    ghost use Rattle.edit_session.specs.Reopened.{Reopens, swap_cost};
 
     /// Makes an edit as `apply` does, and answers the change that undoes it.
     ///
@@ -138,6 +142,48 @@ impl EditSession {
         ensures refused { IfErr result (λ e. e ≢ Memory → asked_at self.now node index ≡ Err e) }
     {
         find_place(&self.set, &self.doc, &self.kept, node, index)
+    }
+
+    /// Assesses the document by another set from then on, which is found anew beside what there was; adds one to the revision as an edit
+    /// does. The nodes keep their numbers.
+    ///
+    /// # Errors
+    ///
+    /// `Memory`, which closes the session; `Closed` after an earlier want of memory.
+    pub fn reopen<L: Ledger>(
+        &mut self,
+        set: Box<Compiled>,
+        steps: &mut Steps<L>,
+    ) -> Result<(), SessionError>
+        requires { IsUsable set.value }
+        ensures reopens { Reopens self.old (set_of set.value) result self.new }
+        ensures spends { Counts steps.old steps.new (swap_cost self.old) }
+        ensures closed { self.old.closed ≡ true → steps.new ≡ steps.old }
+    {
+        if self.closed {
+            return Err(SessionError::Closed);
+        }
+        let mut set = set;
+        match reopen_document(
+            self.kept.alloc,
+            &self.doc,
+            &self.set.names,
+            &mut set,
+            steps,
+        ) {
+            Ok(opened) => {
+                self.set = set;
+                self.doc = opened.doc;
+                self.kept = opened.kept;
+                self.keys = opened.keys;
+                self.revision = self.revision.saturating_add(1);
+                Ok(())
+            }
+            Err(_) => {
+                self.closed = true;
+                Err(SessionError::Memory)
+            }
+        }
     }
 
     /// The parent of a node; `None` exactly for the root, and where the number is of no node. It is known of a closed session too.

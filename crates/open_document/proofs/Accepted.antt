@@ -28,18 +28,19 @@ use Rattle.open_document.specs.State.{Basis, WorkState, working, kept_trees, IsO
 use Rattle.open_document.specs.declared.held.OpenDocument.{OpenDocument}
 use Rattle.open_document.specs.declared.verdict.SetVerdict.{SetVerdict}
 
-module _ (documents : List SchemaInput) where
-  -- documents may be assessed by a set that is accepted
-  pub accepted_usable : (c : Compiled) → IsOutcome documents (Accepted c) → IsUsable c
+-- documents may be assessed by a set that is accepted
+module _ (documents : List SchemaInput) (start : ℕ) where
+  pub accepted_usable : (c : Compiled) → IsOutcome documents start (Accepted c) → IsUsable c
   accepted_usable c (inl (fault, is, other)) = grind arith
   accepted_usable c (inr (made, compiled, (unbroken, of, usable, uses))) = usable
 
-  -- one of their outcomes is told and worked by
-  pub told_and_worked : {E : Type 0} (r : Result SetVerdict E) (old new : WorkState) (o : Outcome) → IsOutcome documents o
+-- one of the outcomes of documents is told and worked by
+module _ (documents : List SchemaInput) where
+  pub told_and_worked : {E : Type 0} (r : Result SetVerdict E) (old new : WorkState) (o : Outcome) → IsOutcome documents 0 o
       → IfOk r (λ told. told ≡ verdict_of (told_of o)) → OnOk r (new ≡ work_after old documents (told_of o)) → IfOk r (λ told. IsCompiled documents old told new)
   told_and_worked (Ok told) old new o is told_is work_is = record {
     outcome = told_of o;
-    is_outcome = record { first = refl; rules_are = refl; outcome = o; is_outcome = is; told_is = refl };
+    is_outcome = record { rules_are = refl; outcome = o; is_outcome = is; told_is = refl };
     told_is = told_is;
     work_is = work_is;
   }

@@ -4,6 +4,7 @@ pub mod Logging
 mod Noting
 pub mod Making
 pub mod Stepping
+pub mod Swapped
 pub mod Worked
 mod Entries
 mod Placed

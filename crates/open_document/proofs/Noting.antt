@@ -13,7 +13,7 @@ use Rattle.open_document.specs.declared.held.OpenDocument.{OpenDocument}
 next_later : (n : ℕ) → n ≤ 2 ^ 64 - 1 → n ≤ next_revision n
 next_later n h = grind arith
 
-next_within : (n : ℕ) → next_revision n ≤ 2 ^ 64 - 1
+pub next_within : (n : ℕ) → next_revision n ≤ 2 ^ 64 - 1
 next_within n = grind arith
 
 still_later : (ts : List Turn) (n m : ℕ) → n ≤ m → AreNoLater ts n → AreNoLater ts m

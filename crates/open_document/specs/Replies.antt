@@ -1,5 +1,5 @@
 -- The replies to the lines of an edit script, and what is told of these lines.
-use Rattle.std.specs.Prelude.{ℕ, List, [], ◌∷◌, ◌++◌, length, Option, Some, None, Result, Ok, Err, codes}
+use Rattle.std.specs.Prelude.{ℕ, ◌-◌, List, [], ◌∷◌, ◌++◌, length, Bool, true, false, ◌&&◌, nat_lt, nat_le, Option, Some, None, Result, Ok, Err, codes}
 use Rattle.std.specs.Fmt.{decimal}
 use Rattle.tree_rows.specs.Forest.{Document}
 use Rattle.tree_rows.specs.Kinds.{kind_of}
@@ -26,12 +26,18 @@ use Rattle.edit_session.specs.Around as around
 use Rattle.edit_session.specs.Around.{asked_at, children_at}
 use Rattle.edit_session.specs.declared.around.AroundError.{AroundError}
 use Rattle.kept_next.specs.Answers.{PlaceQuestion, Answer, reply, cost}
-use Rattle.told.specs.Told.{Said, free, Told, says, looks, tries}
+use Rattle.told.specs.Told.{Said, free, Told, says, asks, looks, tries}
+use Rattle.told.specs.Outcomes.{Question, SetOutcome, accepted, broken}
+use Rattle.xs_codes.specs.Codes.{text_of}
+use Rattle.xs_codes.specs.declared.fault.Fault.{Fault}
+use Rattle.xs_components.specs.declared.common.Rules.TheVariants.{V10}
+use Rattle.schema_set.specs.declared.inputs.SchemaInput.{SchemaInput}
+use Rattle.edit_session.specs.Reopened.{after_swap, swap_cost}
 use Rattle.open_document.specs.State.{OpenState}
 use Rattle.open_document.specs.Touches.{turn_fault}
 use Rattle.open_document.specs.declared.touches.TurnFault.{TurnFault}
 use Rattle.open_document.specs.declared.touches.TurnFault.TheVariants.{BadRevision, Stale}
-use Rattle.open_document.specs.Steps.{Step, undo_of, redo_of, document_behind, with_edit, with_step}
+use Rattle.open_document.specs.Steps.{Step, undo_of, redo_of, document_behind, with_edit, with_step, with_swap}
 
 -- ---- what is written
 
@@ -81,6 +87,16 @@ abbrev pub turn_refusal : TurnFault → List ℕ
 turn_refusal BadRevision = refusal 35 (codes "BadRevision")
 turn_refusal (Stale revision) = codes "no 36 Stale " ++ decimal revision ++ 10 ∷ []
 
+-- no schema section has the number
+abbrev pub no_section : List ℕ
+no_section = refusal 33 (codes "NoSection")
+
+-- the first constraint that the set breaks that starts at the section: the number of the section of its document, that of the element in it, and the
+-- code
+abbrev pub set_refused : Fault → List ℕ
+set_refused fault =
+    codes "no 34 SetRefused " ++ decimal fault.document ++ codes " " ++ decimal fault.item ++ codes " " ++ text_of fault.code ++ 10 ∷ []
+
 -- ---- what is told
 
 -- an edit that is made, behind which what is found is this: the reply, and what it costs
@@ -125,6 +141,27 @@ next_told s children (Err e) next = says (free (refusal (around.number_of e) (ar
 abbrev pub child_count : State → ℕ → ℕ
 child_count s node = width (children_at s.document node)
 
+-- another set was asked for: where it breaks a constraint, this is said, and nothing changes; else what is found of the document by it is looked at,
+-- and the document stands with it then
+abbrev pub swapped_told : OpenState → (OpenState → Told) → SetOutcome → Told
+swapped_told s next (accepted set) =
+    looks (with_names set s.session.document.forest) s.session.document (λ found.
+    says (record { text = made_reply (after_swap s.session set found); cost = swap_cost s.session }) (next (with_swap s set found)))
+swapped_told s next (broken fault) = says (free (set_refused fault)) (next s)
+
+-- whether a schema section has the number
+abbrev pub is_section : List SchemaInput → ℕ → Bool
+is_section documents number = nat_lt 0 number && nat_le number (length documents)
+
+-- the set that starts at the section of this number is asked for
+abbrev pub swap_question : OpenState → ℕ → Question
+swap_question s number = record { documents = s.documents; start = number - 1; rules = V10 }
+
+-- of a swap to the set that starts at the section of this number, by whether there is one
+abbrev pub swap_told : OpenState → ℕ → Bool → (OpenState → Told) → Told
+swap_told s number true next = asks (swap_question s number) (swapped_told s next)
+swap_told s number false next = says (free no_section) (next s)
+
 -- of a line, and what is told behind it: a question, or a line that is no command, changes nothing; an edit without an author is one of author 0
 abbrev pub line_told : OpenState → Result Command ScriptFault → (OpenState → Told) → Told
 line_told s (Ok (commands.Change edit)) next = edit_told s 0 edit (edited s.session.document edit) next
@@ -135,5 +172,6 @@ line_told s (Ok commands.Total) next = says (free (total_reply s.session)) (next
 line_told s (Ok commands.Undo) next = step_told s (undo_of s) no_past next
 line_told s (Ok commands.Redo) next = step_told s (redo_of s) no_future next
 line_told s (Ok (commands.Next parent place)) next = next_told s (child_count s.session parent) (asked_at s.session parent place) next
+line_told s (Ok (commands.Swap number)) next = swap_told s number (is_section s.documents number) next
 line_told s (Ok (commands.Turn author seen edit)) next = turn_told s author edit (turn_fault s author seen edit) next
 line_told s (Err fault) next = says (free (refusal (faults.number_of fault) (faults.name_of fault))) (next s)

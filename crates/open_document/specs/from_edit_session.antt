@@ -2,3 +2,4 @@
 pub use Rattle.edit_session.specs.Changed
 pub use Rattle.edit_session.specs.Around
 pub use Rattle.edit_session.specs.declared.around.AroundError
+pub use Rattle.edit_session.specs.Reopened

@@ -12,8 +12,10 @@ use crate::changing::{answer_change, answer_redo, answer_undo};
 use crate::held::OpenDocument;
 use crate::next::answer_next;
 use crate::reply::{answer_assess, answer_report, answer_total, write_refusal};
+use crate::swapping::answer_swap;
 use crate::turning::answer_turn;
 use edit_script::{Command, ScriptFault};
+use std::alloc::Global;
 use told::BreakOff;
 use xsv_io::Sink;
 use xsv_steps::{Ledger, Steps};
@@ -25,6 +27,7 @@ use xsv_steps::{Ledger, Steps};
 /// `Memory` is want of memory, and nothing was written. `WriteFault` where the sink failed; a front of the reply was then
 /// written.
 pub(crate) fn answer_read<W: Sink, L: Ledger>(
+    alloc: Global,
     document: &mut OpenDocument,
     read: Result<Command, ScriptFault>,
     sink: &mut W,
@@ -51,6 +54,7 @@ pub(crate) fn answer_read<W: Sink, L: Ledger>(
         Ok(Command::Undo) => answer_undo(document, sink, steps),
         Ok(Command::Redo) => answer_redo(document, sink, steps),
         Ok(Command::Next { parent, index }) => { answer_next(document, parent, index, sink, steps) }
+        Ok(Command::Swap(section)) => answer_swap(alloc, document, section, sink, steps),
         Ok(Command::Turn { author, seen, edit }) => {
             answer_turn(document, author, seen, &edit, sink, steps)
         }

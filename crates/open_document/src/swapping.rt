@@ -2,18 +2,20 @@
 
 ghost use Rattle.std.specs.Prelude.{◌≡◌, ◌≤◌, ℕ, false, OnOk, IfOk};
 ghost use Rattle.xsv_io.specs.Causes.{KeepsCount};
+ghost use Rattle.xs_names.specs.Names.{IsSound};
 ghost use Rattle.compiled_schema.specs.Usable.{IsUsable, set_of};
+ghost use Rattle.kept_next.specs.Spaces.{HasSpacesNamed};
+ghost use Rattle.schema_compile.specs.Outcomes.{IsOutcome};
 ghost use Rattle.session_model.specs.Spending.{Counts};
+ghost use Rattle.edit_session.specs.Reopened.{IsReopened, swap_cost};
 ghost use Rattle.told.specs.Going.{Answers, trace};
+ghost use Rattle.told.specs.Outcomes.{accepted, told_of};
 ghost use Rattle.told.specs.Tells.{Tells, IsWriteFault};
 ghost use Rattle.told.specs.Told.{Told};
-ghost use Rattle.told.specs.Outcomes.{told_of};
-ghost use Rattle.schema_compile.specs.Outcomes.{IsOutcome};
-ghost use Rattle.edit_session.specs.Reopened.{IsReopened, swap_cost};
-ghost use Rattle.undo_log.specs.Log.{cleared};
-ghost use Rattle.open_document.specs.Held.{state_of, IsLogged};
+ghost use Rattle.open_document.specs.Held.{state_of, IsLogged, IsReadySet};
 ghost use Rattle.open_document.specs.Replies.{set_refused, is_section, swap_told, swapped_told};
 ghost use Rattle.open_document.specs.State.{OpenState};
+ghost use Rattle.open_document.specs.Steps.{with_swap};
 
 use crate::compiling::outcome_of;
 use crate::held::OpenDocument;
@@ -23,7 +25,9 @@ use plain_session::let_go;
 use schema_compile::Outcome;
 use std::alloc::{AllocError, Global};
 use told::BreakOff;
+use wildcard_laws::wildcards_name_spaces_of_their_table;
 use xs_codes::{Fault, code_text};
+use xs_names::NsId;
 use xsv_io::{Part, Sink};
 use xsv_steps::{Ledger, Steps};
 
@@ -51,13 +55,12 @@ fn swap<L: Ledger>(
     set: Box<Compiled>,
     steps: &mut Steps<L>,
 ) -> Result<(), AllocError>
-    requires usable { IsUsable set.value }
+    requires ready { IsReadySet set.value }
     requires live { document.old.session.closed ≡ false }
     requires logged { IsLogged document.old }
     ensures reopened { OnOk result (IsReopened document.old.session (set_of set.value) document.new.session) }
-    ensures alone { document.new ≡ record document.old { session = document.new.session; log = document.new.log } }
-    ensures log { OnOk result (document.new.log ≡ cleared document.old.log) }
-    ensures closed { document.new.session.closed ≡ false → IsLogged document.new }
+    ensures behind { OnOk result (state_of document.new ≡ with_swap (state_of document.old) (set_of set.value) document.new.session.found) }
+    ensures logged { document.new.session.closed ≡ false → IsLogged document.new }
     ensures spends { Counts steps.old steps.new (swap_cost document.old.session) }
 {
     match document.session.reopen(set, steps) {
@@ -76,10 +79,10 @@ fn answer_set<W: Sink, L: Ledger>(
     sink: &mut W,
     steps: &mut Steps<L>,
 ) -> Result<(), BreakOff>
-    requires usable { IsUsable set.value }
+    requires ready { IsReadySet set.value }
     requires live { document.old.session.closed ≡ false }
     requires logged { IsLogged document.old }
-    ensures answers { (next : OpenState → Told) → Answers (swapped_told (state_of document.old) next (told_of (Outcome.Accepted set.value)))
+    ensures answers { (next : OpenState → Told) → Answers (swapped_told (state_of document.old) next (accepted (set_of set.value)))
         result (trace (W.taken sink.old) steps.old) (trace (W.taken sink.new) steps.new) (λ done. next (state_of document.new)) }
     ensures open { OnOk result (document.new.session.closed ≡ false) }
     ensures logged { document.new.session.closed ≡ false → IsLogged document.new }
@@ -105,6 +108,33 @@ fn boxed_set(alloc: Global, set: Compiled) -> Result<Box<Compiled>, AllocError>
     }
 }
 
+// Swaps to a set that schema documents were compiled to, and writes the reply.
+fn answer_accepted<W: Sink, L: Ledger>(
+    alloc: Global,
+    document: &mut OpenDocument,
+    set: Compiled,
+    sink: &mut W,
+    steps: &mut Steps<L>,
+) -> Result<(), BreakOff>
+    requires usable { IsUsable set }
+    requires spaced { IsSound set.names → HasSpacesNamed (set_of set) }
+    requires live { document.old.session.closed ≡ false }
+    requires logged { IsLogged document.old }
+    ensures answers { (next : OpenState → Told) → Answers (swapped_told (state_of document.old) next (accepted (set_of set)))
+        result (trace (W.taken sink.old) steps.old) (trace (W.taken sink.new) steps.new) (λ done. next (state_of document.new)) }
+    ensures open { OnOk result (document.new.session.closed ≡ false) }
+    ensures logged { document.new.session.closed ≡ false → IsLogged document.new }
+    ensures writes { KeepsCount W.faults W.fault_bound sink.old sink.new (IsWriteFault result) }
+    ensures later { steps.old ≤ steps.new }
+{
+    // Who reads a table of names is told that it is sound.
+    let _sound = set.names.lookup(NsId::ABSENT, "");
+    match boxed_set(alloc, set) {
+        Ok(set) => answer_set(document, set, sink, steps),
+        Err(_) => Err(BreakOff::Memory),
+    }
+}
+
 // Swaps to what schema documents come to, where it is a set, and writes the reply.
 fn answer_outcome<W: Sink, L: Ledger>(
     alloc: Global,
@@ -123,12 +153,10 @@ fn answer_outcome<W: Sink, L: Ledger>(
     ensures writes { KeepsCount W.faults W.fault_bound sink.old sink.new (IsWriteFault result) }
     ensures later { steps.old ≤ steps.new }
 {
+    wildcards_name_spaces_of_their_table();
     match outcome {
         Outcome::Broken(fault) => refuse_set(sink, fault),
-        Outcome::Accepted(set) => match boxed_set(alloc, set) {
-            Ok(set) => answer_set(document, set, sink, steps),
-            Err(_) => Err(BreakOff::Memory),
-        },
+        Outcome::Accepted(set) => answer_accepted(alloc, document, set, sink, steps),
     }
 }
 

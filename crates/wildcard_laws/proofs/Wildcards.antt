@@ -72,8 +72,8 @@ module _ (c : Compiled) (sound : IsSound c.names) where
       let own : AllSpaced c.names c.parts = subst (λ (t : NameTable). AllSpaced t c.parts) (sym names_are) (subst (AllSpaced made.names) (sym parts_are) h) in
       all-at (IsPartSpaced c.names) c.parts.particles.parts own
 
-  pub outcome-spaced : (documents : List SchemaInput) → IsOutcome documents (Accepted c) → HasSpacesNamed (set_of c)
-  outcome-spaced documents (inl (fault, compiled, is)) = absurd (let broken : Accepted c ≡ Broken fault = is in cc broken)
-  outcome-spaced documents (inr (made, compiled, outcome)) =
+  pub outcome-spaced : (documents : List SchemaInput) (start : ℕ) → IsOutcome documents start (Accepted c) → HasSpacesNamed (set_of c)
+  outcome-spaced documents start (inl (fault, compiled, is)) = absurd (let broken : Accepted c ≡ Broken fault = is in cc broken)
+  outcome-spaced documents start (inr (made, compiled, outcome)) =
       made-spaced made outcome.1.names outcome.1.parts
       (set-spaced compiled.1 compiled.2 made compiled.5.1 (subst IsSound outcome.1.names sound))

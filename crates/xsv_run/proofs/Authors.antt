@@ -1,5 +1,5 @@
 -- Commands of several authors are answered as the accepted ones without their authors.
-use Rattle.std.proofs.Common.{◌≡◌, ℕ, List, [], ◌∷◌, Option, Some, None, Result, Ok, Err, refl, sym, ap, ◌∙◌, subst}
+use Rattle.std.proofs.Common.{◌≡◌, ℕ, Bool, true, false, List, [], ◌∷◌, Option, Some, None, Result, Ok, Err, refl, sym, ap, ◌∙◌, subst}
 use Rattle.std.proofs.lemmas.Option.{none-some}
 use Rattle.tree_rows.specs.Forest.{Document}
 use Rattle.tree_edits.specs.Tests.{edited}
@@ -9,15 +9,16 @@ use Rattle.edit_script.specs.declared.command.Command.{Command}
 use Rattle.edit_script.specs.declared.command.Command.TheVariants as commands
 use Rattle.edit_script.specs.declared.command.ScriptFault.{ScriptFault}
 use Rattle.told.specs.Told.{Said, free}
-use Rattle.stream_answers.specs.from_open_document.Replies.{turn_refusal, no_past, no_future, child_count}
+use Rattle.stream_answers.specs.from_open_document.Replies.{turn_refusal, is_section, no_past, no_future, child_count}
 use Rattle.stream_answers.specs.from_edit_session.Around.{asked_at}
 use Rattle.stream_answers.specs.from_edit_session.AroundError.{AroundError}
 use Rattle.kept_next.specs.Answers.{PlaceQuestion}
+use Rattle.told.specs.Outcomes.{SetOutcome, accepted, broken}
 use Rattle.stream_answers.specs.from_open_document.State.{OpenState}
 use Rattle.stream_answers.specs.from_open_document.Steps.{Step, undo_of, redo_of, with_edit, with_step}
 use Rattle.stream_answers.specs.from_open_document.Touches.{turn_fault}
 use Rattle.stream_answers.specs.from_open_document.TurnFault.{TurnFault}
-use Rattle.xsv_run.specs.Complete.{IsEditReply, IsStepReply, IsNextReply, IsTurnReply, IsReply}
+use Rattle.xsv_run.specs.Complete.{IsEditReply, IsSetReply, IsSwapReply, IsStepReply, IsNextReply, IsTurnReply, IsReply}
 use Rattle.xsv_run.specs.Authors.{Read, without_author, fault_of, IsAlike, AreAnswers, IsPlainBy, ArePlain}
 
 -- a document with the turns of another
@@ -42,6 +43,14 @@ module _ (s t : OpenState) (own : Said) (next : OpenState) where
   next_so children (Ok question) h = (t, (h.0, h.1, h.2, ap (turned t) h.3))
   next_so children (Err e) h = (t, (h.0, ap (turned t) h.1))
 
+  set_so : (o : SetOutcome) → IsSetReply s o own next → (later : OpenState) × IsSetReply (turned t s) o own (turned later next)
+  set_so (accepted set) h = (t, (h.0, h.1, h.2, ap (turned t) h.3))
+  set_so (broken fault) h = stays_so h
+
+  swap_so : (number : ℕ) (there : Bool) → IsSwapReply s number there own next → (later : OpenState) × IsSwapReply (turned t s) number there own (turned later next)
+  swap_so number true h = let one = set_so h.0 h.2 in (one.0, (h.0, h.1, one.1))
+  swap_so number false h = stays_so h
+
   turn_so : (author : ℕ) (edit : Edit) (fault : Option TurnFault) → fault ≡ None → IsTurnReply s author edit fault own next
       → (later : OpenState) × IsEditReply (turned t s) 0 edit (edited s.session.document edit) own (turned later next)
   turn_so author edit fault none h =
@@ -57,6 +66,7 @@ module _ (s t : OpenState) (own : Said) (next : OpenState) where
   reply_so (Ok commands.Undo) none h = step_so (undo_of s) no_past h
   reply_so (Ok commands.Redo) none h = step_so (redo_of s) no_future h
   reply_so (Ok (commands.Next parent place)) none h = next_so (child_count s.session parent) (asked_at s.session parent place) h
+  reply_so (Ok (commands.Swap number)) none h = swap_so number (is_section s.documents number) h
   reply_so (Ok (commands.Turn author seen edit)) none h = turn_so author edit (turn_fault s author seen edit) none h
   reply_so (Err fault) none h = (t, (h.0, ap (turned t) h.1))
 
@@ -76,6 +86,7 @@ refused_so s (Ok commands.Total) own next fault is h = absurd (none-some fault i
 refused_so s (Ok commands.Undo) own next fault is h = absurd (none-some fault is)
 refused_so s (Ok commands.Redo) own next fault is h = absurd (none-some fault is)
 refused_so s (Ok (commands.Next parent place)) own next fault is h = absurd (none-some fault is)
+refused_so s (Ok (commands.Swap number)) own next fault is h = absurd (none-some fault is)
 refused_so s (Err e) own next fault is h = absurd (none-some fault is)
 
 -- what there is for lines

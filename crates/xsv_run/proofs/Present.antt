@@ -1,5 +1,5 @@
 -- A document is the present one of its history behind any commands.
-use Rattle.std.proofs.Common.{◌≡◌, ℕ, List, [], ◌∷◌, Option, Some, None, Result, Ok, Err, refl, sym, subst}
+use Rattle.std.proofs.Common.{◌≡◌, ℕ, Bool, true, false, List, [], ◌∷◌, Option, Some, None, Result, Ok, Err, refl, sym, subst}
 use Rattle.tree_rows.specs.Forest.{Document}
 use Rattle.tree_edits.specs.Tests.{edited}
 use Rattle.tree_edits.specs.declared.edit.Edit.{Edit}
@@ -9,16 +9,17 @@ use Rattle.edit_script.specs.declared.command.Command.{Command}
 use Rattle.edit_script.specs.declared.command.Command.TheVariants as commands
 use Rattle.edit_script.specs.declared.command.ScriptFault.{ScriptFault}
 use Rattle.told.specs.Told.{Said}
-use Rattle.stream_answers.specs.from_open_document.Replies.{no_past, no_future, child_count}
+use Rattle.stream_answers.specs.from_open_document.Replies.{is_section, no_past, no_future, child_count}
 use Rattle.stream_answers.specs.from_edit_session.Around.{asked_at}
 use Rattle.stream_answers.specs.from_edit_session.AroundError.{AroundError}
 use Rattle.kept_next.specs.Answers.{PlaceQuestion}
+use Rattle.told.specs.Outcomes.{SetOutcome, accepted, broken}
 use Rattle.stream_answers.specs.from_open_document.State.{OpenState}
 use Rattle.stream_answers.specs.from_open_document.Touches.{turn_fault}
 use Rattle.stream_answers.specs.from_open_document.TurnFault.{TurnFault}
 use Rattle.stream_answers.specs.from_open_document.Steps.{Step, undo_of, redo_of}
 use Rattle.stream_sections.specs.Spelled.{Order}
-use Rattle.xsv_run.specs.Complete.{IsEditReply, IsTurnReply, IsStepReply, IsNextReply, IsReply, AreReplies, IsPresent}
+use Rattle.xsv_run.specs.Complete.{IsEditReply, IsTurnReply, IsSetReply, IsSwapReply, IsStepReply, IsNextReply, IsReply, AreReplies, IsPresent}
 
 module _ (s : OpenState) (own : Said) (next : OpenState) (present : IsPresent s) where
   stays : {P : Type 0} → P × (next ≡ s) → IsPresent next
@@ -40,6 +41,14 @@ module _ (s : OpenState) (own : Said) (next : OpenState) (present : IsPresent s)
   next_present children (Ok question) h = subst IsPresent (sym h.3) present
   next_present children (Err e) h = stays h
 
+  set_present : (o : SetOutcome) → IsSetReply s o own next → IsPresent next
+  set_present (accepted set) h = subst IsPresent (sym h.3) refl
+  set_present (broken fault) h = stays h
+
+  swap_present : (number : ℕ) (there : Bool) → IsSwapReply s number there own next → IsPresent next
+  swap_present number true h = set_present h.0 h.2
+  swap_present number false h = stays h
+
   reply_present : (r : Result Command ScriptFault) → IsReply s r own next → IsPresent next
   reply_present (Ok (commands.Change edit)) h = edit_present 0 edit (edited s.session.document edit) h
   reply_present (Ok (commands.Assess node)) h = stays h
@@ -49,6 +58,7 @@ module _ (s : OpenState) (own : Said) (next : OpenState) (present : IsPresent s)
   reply_present (Ok commands.Undo) h = step_present (undo_of s) no_past h
   reply_present (Ok commands.Redo) h = step_present (redo_of s) no_future h
   reply_present (Ok (commands.Next parent place)) h = next_present (child_count s.session parent) (asked_at s.session parent place) h
+  reply_present (Ok (commands.Swap number)) h = swap_present number (is_section s.documents number) h
   reply_present (Ok (commands.Turn author seen edit)) h = turn_present author edit (turn_fault s author seen edit) h
   reply_present (Err fault) h = stays h
 

@@ -1,5 +1,5 @@
 -- What is told of commands leads to their replies, and to no others.
-use Rattle.std.proofs.Common.{◌≡◌, inl, inr, ℕ, List, [], ◌∷◌, Option, Some, None, Result, Ok, Err, refl, sym, ap, ◌∙◌, subst}
+use Rattle.std.proofs.Common.{◌≡◌, inl, inr, ℕ, Bool, true, false, List, [], ◌∷◌, Option, Some, None, Result, Ok, Err, refl, sym, ap, ◌∙◌, subst}
 use Rattle.tree_rows.specs.Forest.{Document}
 use Rattle.tree_edits.specs.Tests.{edited}
 use Rattle.tree_edits.specs.declared.edit.Edit.{Edit}
@@ -13,18 +13,20 @@ use Rattle.stream_answers.specs.from_edit_session.Changed.{after_change}
 use Rattle.kept_next.specs.Answers.{PlaceQuestion, Answer, AreAnswers}
 use Rattle.stream_answers.specs.from_edit_session.Around.{asked_at}
 use Rattle.stream_answers.specs.from_edit_session.AroundError.{AroundError}
+use Rattle.stream_answers.specs.from_edit_session.Reopened.{after_swap, swap_cost}
+use Rattle.told.specs.Outcomes.{SetOutcome, accepted, broken}
 use Rattle.told.specs.Told.{Said, free, silent, joined, Told, over, says, Leads}
 use Rattle.told.specs.declared.ending.Ending.{Ending}
 use Rattle.told.proofs.Leading.{IsOver, silent_first, silent_last, joined_assoc, leads_says}
 use Rattle.stream_answers.specs.from_open_document.Answers.{verdict}
-use Rattle.stream_answers.specs.from_open_document.Replies.{edit_told, turn_told, step_told, next_told, line_told, no_past, no_future, made_said, step_said, next_said, child_count}
+use Rattle.stream_answers.specs.from_open_document.Replies.{edit_told, turn_told, swap_told, swapped_told, swap_question, is_section, made_reply, step_told, next_told, line_told, no_past, no_future, made_said, step_said, next_said, child_count}
 use Rattle.stream_answers.specs.from_open_document.State.{OpenState}
 use Rattle.stream_answers.specs.from_open_document.Touches.{turn_fault}
 use Rattle.stream_answers.specs.from_open_document.TurnFault.{TurnFault}
-use Rattle.stream_answers.specs.from_open_document.Steps.{Step, undo_of, redo_of, document_behind, with_edit, with_step}
+use Rattle.stream_answers.specs.from_open_document.Steps.{Step, undo_of, redo_of, document_behind, with_edit, with_step, with_swap}
 use Rattle.stream_sections.specs.Spelled.{given, Order}
 use Rattle.stream_answers.specs.Output.{ends, end_line, ending_of, commands_told}
-use Rattle.xsv_run.specs.Complete.{IsEditReply, IsTurnReply, IsStepReply, IsNextReply, IsReply, AreReplies}
+use Rattle.xsv_run.specs.Complete.{IsEditReply, IsTurnReply, IsSetReply, IsSwapReply, IsStepReply, IsNextReply, IsReply, AreReplies}
 
 -- ---- one text
 
@@ -85,6 +87,21 @@ module _ (s : OpenState) (k : OpenState → Told) (said : Said) (e : Option Endi
       (own, s, one.0, (h.0, h.1, refl, refl), one.1, one.2)
   next_back children (Err why) h = stays_back _ h
 
+  set_back : (o : SetOutcome) → Leads (swapped_told s k o) said (over e) → IsRepliedTo (IsSetReply s o)
+  set_back (accepted set) (inl h) = absurd (subst IsOver h.1 tt)
+  set_back (accepted set) (inr h) =
+      let own = record { text = made_reply (after_swap s.session set h.0); cost = swap_cost s.session } in
+      let one = says_back own (k (with_swap s set h.0)) said e h.2 in
+      (own, with_swap s set h.0, one.0, (h.0, h.1, refl, refl), one.1, one.2)
+  set_back (broken fault) h = stays_back _ h
+
+  swap_back : (number : ℕ) (there : Bool) → Leads (swap_told s number there k) said (over e) → IsRepliedTo (IsSwapReply s number there)
+  swap_back number true (inl h) = absurd (subst IsOver h.1 tt)
+  swap_back number true (inr h) =
+      let one = set_back h.0 h.2 in
+      (one.0, one.1, one.2, (h.0, h.1, one.3), one.4, one.5)
+  swap_back number false h = stays_back _ h
+
   pub reply_back : (r : Result Command ScriptFault) → Leads (line_told s r k) said (over e) → IsRepliedTo (IsReply s r)
   reply_back (Ok (commands.Change edit)) h = edit_back 0 edit (edited s.session.document edit) h
   reply_back (Ok (commands.Assess node)) h = stays_back _ h
@@ -94,6 +111,7 @@ module _ (s : OpenState) (k : OpenState → Told) (said : Said) (e : Option Endi
   reply_back (Ok commands.Undo) h = step_back (undo_of s) no_past h
   reply_back (Ok commands.Redo) h = step_back (redo_of s) no_future h
   reply_back (Ok (commands.Next parent place)) h = next_back (child_count s.session parent) (asked_at s.session parent place) h
+  reply_back (Ok (commands.Swap number)) h = swap_back number (is_section s.documents number) h
   reply_back (Ok (commands.Turn author seen edit)) h = turn_back author edit (turn_fault s author seen edit) h
   reply_back (Err fault) h = stays_back _ h
 
@@ -142,6 +160,21 @@ module _ (s : OpenState) (k : OpenState → Told) (own : Said) (next : OpenState
       )
   next_on children (Err why) h = stays_on _ h
 
+  set_on : (o : SetOutcome) → IsSetReply s o own next → Leads (swapped_told s k o) (joined own later) rest
+  set_on (accepted set) h =
+      let said = record { text = made_reply (after_swap s.session set h.0); cost = swap_cost s.session } in
+      inr (
+        h.0,
+        h.1,
+        subst (λ (x : Said). Leads (says said (k (with_swap s set h.0))) (joined x later) rest) (sym h.2)
+            (says_on said (k (with_swap s set h.0)) later rest (subst (λ (x : OpenState). Leads (k x) later rest) h.3 behind)),
+      )
+  set_on (broken fault) h = stays_on _ h
+
+  swap_on : (number : ℕ) (there : Bool) → IsSwapReply s number there own next → Leads (swap_told s number there k) (joined own later) rest
+  swap_on number true h = inr (h.0, h.1, set_on h.0 h.2)
+  swap_on number false h = stays_on _ h
+
   pub reply_on : (r : Result Command ScriptFault) → IsReply s r own next → Leads (line_told s r k) (joined own later) rest
   reply_on (Ok (commands.Change edit)) h = edit_on 0 edit (edited s.session.document edit) h
   reply_on (Ok (commands.Assess node)) h = stays_on _ h
@@ -151,6 +184,7 @@ module _ (s : OpenState) (k : OpenState → Told) (own : Said) (next : OpenState
   reply_on (Ok commands.Undo) h = step_on (undo_of s) no_past h
   reply_on (Ok commands.Redo) h = step_on (redo_of s) no_future h
   reply_on (Ok (commands.Next parent place)) h = next_on (child_count s.session parent) (asked_at s.session parent place) h
+  reply_on (Ok (commands.Swap number)) h = swap_on number (is_section s.documents number) h
   reply_on (Ok (commands.Turn author seen edit)) h = turn_on author edit (turn_fault s author seen edit) h
   reply_on (Err fault) h = stays_on _ h
 

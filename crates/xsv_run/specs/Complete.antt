@@ -1,5 +1,5 @@
 -- What is written for a whole stream of which no line is refused.
-use Rattle.std.specs.Prelude.{◌≡◌, ℕ, ◌+◌, List, [], ◌∷◌, ◌++◌, Option, Some, None, Result, Ok, Err}
+use Rattle.std.specs.Prelude.{◌≡◌, ℕ, ◌+◌, Bool, true, false, List, [], ◌∷◌, ◌++◌, Option, Some, None, Result, Ok, Err}
 use Rattle.tree_rows.specs.Forest.{Document}
 use Rattle.tree_edits.specs.Refusals as refusals
 use Rattle.tree_edits.specs.Tests.{edited}
@@ -18,14 +18,15 @@ use Rattle.stream_answers.specs.from_edit_session.Around as around
 use Rattle.stream_answers.specs.from_edit_session.Around.{asked_at}
 use Rattle.stream_answers.specs.from_edit_session.AroundError.{AroundError}
 use Rattle.kept_next.specs.Answers.{PlaceQuestion, Answer, AreAnswers}
+use Rattle.stream_answers.specs.from_edit_session.Reopened.{after_swap, swap_cost}
 use Rattle.told.specs.Outcomes.{SetOutcome, accepted, broken, IsOutcomeOf}
 use Rattle.told.specs.Told.{Said, free, silent, joined}
 use Rattle.stream_answers.specs.from_open_document.Answers.{opened, opening_cost, verdict}
-use Rattle.stream_answers.specs.from_open_document.Replies.{refusal, turn_refusal, no_past, no_future, assess_reply, report_reply, total_reply, made_said, step_said, next_said, child_count}
+use Rattle.stream_answers.specs.from_open_document.Replies.{refusal, turn_refusal, set_refused, no_section, swap_question, is_section, made_reply, no_past, no_future, assess_reply, report_reply, total_reply, made_said, step_said, next_said, child_count}
 use Rattle.stream_answers.specs.from_open_document.State.{OpenState, with_documents}
 use Rattle.stream_answers.specs.from_open_document.Touches.{turn_fault}
 use Rattle.stream_answers.specs.from_open_document.TurnFault.{TurnFault}
-use Rattle.stream_answers.specs.from_open_document.Steps.{Step, undo_of, redo_of, document_behind, with_edit, with_step}
+use Rattle.stream_answers.specs.from_open_document.Steps.{Step, undo_of, redo_of, document_behind, with_edit, with_step, with_swap}
 use Rattle.stream_sections.specs.Spelled.{Order}
 use Rattle.stream_sections.specs.declared.asked.Asked.{Asked}
 use Rattle.stream_sections.specs.declared.schemas.SchemaSection.{SchemaSection}
@@ -67,6 +68,18 @@ abbrev pub IsNextReply : OpenState → ℕ → Result PlaceQuestion AroundError 
 IsNextReply s children (Ok question) own next = (answers : List Answer) × AreAnswers question answers × (own ≡ next_said children question answers) × (next ≡ s)
 IsNextReply s children (Err e) own next = (own ≡ free (refusal (around.number_of e) (around.name_of e))) × (next ≡ s)
 
+-- The reply to a swap where the set that was asked for comes to this, and the document behind it with what is found of it by the set.
+abbrev pub IsSetReply : OpenState → SetOutcome → Said → OpenState → Type 0
+IsSetReply s (accepted set) own next =
+    (found : List Entry) × IsFound (with_names set s.session.document.forest) s.session.document found
+    × (own ≡ record { text = made_reply (after_swap s.session set found); cost = swap_cost s.session }) × (next ≡ with_swap s set found)
+IsSetReply s (broken fault) own next = (own ≡ free (set_refused fault)) × (next ≡ s)
+
+-- The reply to a swap, by whether a schema section has the number.
+abbrev pub IsSwapReply : OpenState → ℕ → Bool → Said → OpenState → Type 0
+IsSwapReply s number true own next = (o : SetOutcome) × IsOutcomeOf (swap_question s number) o × IsSetReply s o own next
+IsSwapReply s number false own next = (own ≡ free no_section) × (next ≡ s)
+
 -- the reply to a line, and the document behind it
 abbrev pub IsReply : OpenState → Result Command ScriptFault → Said → OpenState → Type 0
 IsReply s (Ok (commands.Change edit)) own next = IsEditReply s 0 edit (edited s.session.document edit) own next
@@ -77,6 +90,7 @@ IsReply s (Ok commands.Total) own next = (own ≡ free (total_reply s.session)) 
 IsReply s (Ok commands.Undo) own next = IsStepReply s (undo_of s) no_past own next
 IsReply s (Ok commands.Redo) own next = IsStepReply s (redo_of s) no_future own next
 IsReply s (Ok (commands.Next parent place)) own next = IsNextReply s (child_count s.session parent) (asked_at s.session parent place) own next
+IsReply s (Ok (commands.Swap number)) own next = IsSwapReply s number (is_section s.documents number) own next
 IsReply s (Ok (commands.Turn author seen edit)) own next = IsTurnReply s author edit (turn_fault s author seen edit) own next
 IsReply s (Err fault) own next = (own ≡ free (refusal (faults.number_of fault) (faults.name_of fault))) × (next ≡ s)
 

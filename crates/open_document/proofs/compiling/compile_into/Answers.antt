@@ -7,4 +7,4 @@ use Rattle.open_document.proofs.compiling.compile_into.Goals as goal
 pub returns-in-Ok-clause-compiled : goal.returns-in-Ok-clause-compiled
 returns-in-Ok-clause-compiled c =
     told_and_worked c.args.documents.items c.take.result (work_of c.args.held.now) (work_of c.take.new.held) c.in-Ok.outcome
-    (subst (λ l. IsOutcome l c.in-Ok.outcome) c.as_slice.ensures.value c.in-Ok.ensures.outcome) c.take.ensures.told c.take.ensures.work
+    (subst (λ l. IsOutcome l 0 c.in-Ok.outcome) c.as_slice.ensures.value c.in-Ok.ensures.outcome) c.take.ensures.told c.take.ensures.work

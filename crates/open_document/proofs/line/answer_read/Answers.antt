@@ -73,6 +73,13 @@ returns-in-Ok-Next-clause-answers g c = λ next.
     subst (λ (read : Result Command ScriptFault). Answers (line_told s read next) c.answer_next.result (trace (g.W.Sink.taken c.args.sink.now) c.args.steps.now)
     (trace (g.W.Sink.taken c.answer_next.new.sink) c.answer_next.new.steps) (λ done. next s)) (sym (c.in-Ok-Next.is ∙ ap (λ (x : Command). Ok x) c.in-Ok-Next.field-0-is)) (c.answer_next.ensures.answers next)
 
+pub returns-in-Ok-Swap-clause-answers : goal.returns-in-Ok-Swap-clause-answers
+returns-in-Ok-Swap-clause-answers g c = λ next.
+    let s = state_of c.args.document.now in
+    let is = c.in-Ok-Swap.is ∙ ap (λ (x : Command). Ok x) c.in-Ok-Swap.field-0-is in
+    subst (λ (read : Result Command ScriptFault). Answers (line_told s read next) c.answer_swap.result (trace (g.W.Sink.taken c.args.sink.now) c.args.steps.now)
+    (trace (g.W.Sink.taken c.answer_swap.new.sink) c.answer_swap.new.steps) (λ done. next (state_of c.answer_swap.new.document))) (sym is) (c.answer_swap.ensures.answers next)
+
 pub returns-in-Ok-Turn-clause-answers : goal.returns-in-Ok-Turn-clause-answers
 returns-in-Ok-Turn-clause-answers g c = λ next.
     let s = state_of c.args.document.now in
