@@ -10,6 +10,9 @@ use Rattle.assessment.specs.Local.{HasElement}
 use Rattle.identity_constraints.specs.Seen.{KeyElement, KeyForest}
 use Rattle.identity_constraints.specs.Seen as keyed
 use Rattle.identity_constraints.specs.Targets.{Outcome, outcomes}
+use Rattle.identity_constraints.specs.Satisfied.{identity_codes}
+use Rattle.identity_paths.specs.declared.paths.IdentityPaths.{IdentityPaths}
+use Rattle.xs_codes.specs.declared.fault.Found.{Found}
 use Rattle.identity_counts.specs.Counting.{IsLinked, Links, Numbers, StandFor, firsts}
 use Rattle.identity_counts.specs.Counting as numbers
 use Rattle.identity_assessment.specs.Identity.{seen, seen_element}
@@ -45,7 +48,7 @@ use Rattle.kept_targets.proofs.Down.{seen-down}
 use Rattle.kept_targets.proofs.Links.{child-up}
 use Rattle.kept_targets.proofs.Looking.{element-of, fit-of, made-of, root-there, sound}
 use Rattle.kept_targets.proofs.Seeing.{seen-is}
-use Rattle.kept_keys.specs.Keys.{IsWhole}
+use Rattle.kept_keys.specs.Keys.{IsWhole, codes_at}
 use Rattle.kept_keys.proofs.Coding as coding
 use Rattle.kept_keys.proofs.Numbered.{AreNumbered}
 use Rattle.kept_keys.proofs.Whole.{made-there, numbered, seen-once, settled, there-made}
@@ -166,7 +169,7 @@ module _ (c : Compiled) (ns : Nodes) (k : KeptState) (whole : IsWhole c ns k) wh
 -- ---- what is counted of it
 
 module _ (c : Compiled) (ns : Nodes) (k : KeptState) (whole : IsWhole c ns k) (keys : TargetKeys) (are : AreTargets c ns k.records.slots keys) where
-  abbrev links : Links
+  abbrev pub links : Links
   links = record { parent = parent_of keys.counted; children = element_children ns }
 
   -- the links of the document are those by the parents that are kept
@@ -295,3 +298,18 @@ module _ (c : Compiled) (ns : Nodes) (k : KeptState) (whole : IsWhole c ns k) (k
             here = λ key f. ap (λ (m : ℕ). counted_all keys.counted.targets m key f) (sym at_n) ∙ counts own below h key f ∙ count-is (outcomes c.names c.parts c.identities.items key own below) f;
             there = below-counted below (λ other inner g. within-more forest own below h other inner g);
           }
+
+      -- and the codes that are read off there are those of the element
+      pub codes-are : (tree : KeyTree) → keys.counted.references ≡ tree.references.now → (identities : List IdentityPaths) → identities ≡ c.identities.items → (n : ℕ) → IsMade k.records.slots n → (own : KeyElement)
+          → own ≡ seen_element (entry_at k.records.slots n) → (codes : List Found)
+          → ((below : KeyForest) → AreFilledAt c.names c.parts identities tree keys.counted.records n own below → codes ≡ identity_codes c.names c.parts identities own below) → codes ≡ codes_at c forest n
+      codes-are tree same identities paths n made own own_is codes given =
+          let there = has-within ns k.records.slots d.forest n (there-made c ns k whole d over n made) in
+          let filled = filled-at tree same n (element-of c ns k whole n made) there.0 there.1 in
+          let by_paths =
+          subst (λ (ps : List IdentityPaths). (below : KeyForest) → AreFilledAt c.names c.parts ps tree keys.counted.records n own below → codes ≡ identity_codes c.names c.parts ps own below) paths given in
+          let here =
+          subst (λ (e : KeyElement). (below : KeyForest) → AreFilledAt c.names c.parts c.identities.items tree keys.counted.records n e below → codes ≡ identity_codes c.names c.parts c.identities.items e below) own_is by_paths in
+          here there.0 filled
+          ∙ sym (coding.codes-within c.names c.parts c.identities.items (seen_element (entry_at k.records.slots n)) there.0 forest (seen-once c ns k whole d over) there.1)
+          ∙ ap (λ (m : ℕ). codes_at c forest m) (number-is c ns k whole n made)
