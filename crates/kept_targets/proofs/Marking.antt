@@ -1,6 +1,6 @@
 -- The child elements whose names are ambivalent, one after another.
-use Rattle.std.proofs.Common.{◌≡◌, ◌+◌, ◌<◌, ◌≤◌, ℕ, suc, List, [], ◌∷◌, length, map, Option, None, Some, inl, inr, refl, sym, ap, ◌∙◌, subst, arith}
-use Rattle.std.specs.Prelude.{slice_get}
+use Rattle.std.proofs.Common.{◌≡◌, ◌+◌, ◌<◌, ◌≤◌, ℕ, zero, suc, List, [], ◌∷◌, length, map, Option, None, Some, inl, inr, refl, sym, ap, ◌∙◌, subst, arith}
+use Rattle.std.specs.Prelude.{slice_get, MatchOption}
 use Rattle.std.proofs.lemmas.Bool.{cases_eq}
 use Rattle.std.proofs.lemmas.Option.{none-some, same_Some, slice_get_past}
 use Rattle.xs_names.specs.Names.{NameTable}
@@ -27,12 +27,16 @@ use Rattle.kept_targets.proofs.Adding.{looked-more, place-before}
 
 -- ---- by the list
 
-pub unlisted : (v : ListsView) (model : Option ContentAutomaton) (list : Option ModelList) (symbols : List ℕ) → list ≡ None → IsListed v model list symbols → (place : ℕ) → Has place (marked_places model symbols) → ⊥
-unlisted v model list symbols e listed place h = by model (subst (λ (l : Option ModelList). IsListed v model l symbols) e listed) h
+pub unlisted : (v : ListsView) (model : Option ContentAutomaton) (list : Option ModelList) (symbols : List ℕ) → list ≡ None → IsListed v model list symbols → (number : ℕ) → slice_get (marked_places model symbols) number ≡ None
+unlisted v model list symbols e listed number = by model (subst (λ (l : Option ModelList). IsListed v model l symbols) e listed)
   where
-    by : (m : Option ContentAutomaton) → IsListed v m None symbols → Has place (marked_places m symbols) → ⊥
-    by None l k = k
-    by (Some a) l k = l
+    empty : (i : ℕ) → slice_get [] i ≡ None
+    empty zero = refl
+    empty (suc i) = refl
+
+    by : (m : Option ContentAutomaton) → IsListed v m None symbols → slice_get (marked_places m symbols) number ≡ None
+    by None l = empty number
+    by (Some a) l = absurd l
 
 pub marked-get : (v : ListsView) (model : Option ContentAutomaton) (list : Option ModelList) (h : ModelList) (symbols : List ℕ) → list ≡ Some h → IsListed v model list symbols → (found : Option ℕ) (number : ℕ)
     → ((a : ContentAutomaton) (xs : List ℕ) → IsListOf v h a xs → found ≡ slice_get (ambivalent_places a xs) number) → found ≡ slice_get (marked_places model symbols) number
@@ -66,6 +70,13 @@ module _ (names : NameTable) (ns : Nodes) (model : Option ContentAutomaton) (n :
 
   pub few-all : length places ≤ length (element_children ns n)
   few-all = let h = few-places model (child_symbols names model (map (name_at ns) (element_children ns n))) in let m = many-symbols names model (name_at ns) (element_children ns n) in omega (arith, h, m)
+
+-- the child element at the place, if there is one
+pub at-child : (c : Compiled) (ns : Nodes) (k : KeptState) (n number place : ℕ) → Some place ≡ slice_get (marks c ns k n) number → (found : Option ℕ) → found ≡ slice_get (element_children ns n) place
+    → MatchOption found (slice_get (marks c ns k n) number ≡ None) (λ child. (p : ℕ) × (slice_get (marks c ns k n) number ≡ Some p) × (slice_get (element_children ns n) p ≡ Some child))
+at-child c ns k n number place e None none =
+    absurd (child-at (set_of c).names ns (model_at (set_of c) (models_of c) ns k.records.slots n) n number place (sym e) (sym none))
+at-child c ns k n number place e (Some child) there = (place, sym e, sym there)
 
 has-place : (xs : List ℕ) (x : ℕ) → Has x xs → (place : ℕ) × (slice_get xs place ≡ Some x)
 has-place [] x h = absurd h

@@ -30,16 +30,10 @@ use Rattle.kept_targets.specs.declared.keys.TargetKeys.{TargetKeys}
 use Rattle.kept_targets.specs.declared.turn.Turn.{Turn}
 use Rattle.kept_targets.proofs.Among.{has-or-not}
 use Rattle.kept_targets.proofs.Counts.{target-goes}
+use Rattle.kept_targets.proofs.Emptied.{nothing}
 use Rattle.kept_targets.proofs.Links.{parent-lower}
 use Rattle.kept_targets.proofs.Looking.{above-there, doc, element-of, made-of, root-there, sign-is, sound}
 use Rattle.kept_targets.proofs.Retargeted.{made-or-not, no-sign, no-targets}
-
-none-at : {T : Type 0} (n : ℕ) → at {T = T} [] n ≡ None
-none-at zero = refl
-none-at (suc n) = refl
-
-nothing : (n : ℕ) → ¬ IsMade [] n
-nothing n made = none-some made.0 (sym (none-at n) ∙ made.1)
 
 module _ (c : Compiled) (ms : Nodes) (l : KeptState) (new : IsWhole c ms l) (keys : TargetKeys) (turn : Turn) (opens : Opens c ms keys turn) where
   no-targets-yet : (n : ℕ) → targets_of keys.counted n ≡ []
