@@ -24,7 +24,7 @@ use Rattle.child_lists.specs.from_kept_state.KeptState.{KeptState}
 use Rattle.child_lists.proofs.from_kept_forgetting.Walks.{below-within, child-below, self-within}
 use Rattle.kept_targets.specs.Kept.{kin_of, sign_at}
 use Rattle.kept_targets.specs.Moved.{IsLookedAt, IsMarked, IsSteady, constraints_by}
-use Rattle.kept_targets.specs.Moved.IsLookedAt as looked
+use Rattle.kept_targets.specs.Moved.{IsLookedAt as looked}
 use Rattle.kept_targets.specs.Turned.{Stays, Turns, own_of, listed_of, list_of, lowest_of}
 use Rattle.kept_targets.specs.Whole.{IsWhole}
 use Rattle.kept_targets.specs.declared.keys.ElementSign.{ElementSign}
@@ -53,7 +53,20 @@ list-above ns (turns.Gone p numbers) n e = subst (IsWithin ns n) (sym (same_Some
 
 -- a number is another or above it, or is not
 within-or-not : (ns : Nodes) → IsSound ns → (n levels m : ℕ) → depth_by (node ns m) ≤ levels → IsWithin ns n m ⊎ (¬ IsWithin ns n m)
-within-or-not ns sound n levels m few = elim (cases_eq m n) [ inl e ↦ inl (0, ap Some e) | inr off ↦ by (parent_at ns m) refl off levels few ]
+within-or-not ns sound n zero m few = elim (cases_eq m n) [ inl e ↦ inl (0, ap Some e) | inr off ↦ by (parent_at ns m) refl off ]
+  where
+    alone : parent_at ns m ≡ None → m ≢ n → (up : ℕ) → upwards ns up m ≡ Some n → ⊥
+    alone none off zero e = off (same_Some m n e)
+    alone none off (suc more) e = none-some n (sym (ap (option_and_then (upwards ns more)) none) ∙ e)
+
+    by : (o : Option ℕ) → parent_at ns m ≡ o → m ≢ n → IsWithin ns n m ⊎ (¬ IsWithin ns n m)
+    by None none off = inr (λ w. alone none off w.0 w.1)
+    by (Some p) up off = let deeper = parent-lower ns sound m p up in absurd (omega (arith, deeper, few))
+within-or-not ns sound n (suc levels) m few =
+    elim (cases_eq m n) [
+      | inl e ↦ inl (0, ap Some e)
+      | inr off ↦ by (parent_at ns m) refl off (λ p up. within-or-not ns sound n levels p (let deeper = parent-lower ns sound m p up in omega (arith, deeper, few)))
+    ]
   where
     below : (p : ℕ) → parent_at ns m ≡ Some p → m ≢ n → ¬ IsWithin ns n p → (up : ℕ) → upwards ns up m ≡ Some n → ⊥
     below p up off none zero e = off (same_Some m n e)
@@ -63,15 +76,9 @@ within-or-not ns sound n levels m few = elim (cases_eq m n) [ inl e ↦ inl (0, 
     alone none off zero e = off (same_Some m n e)
     alone none off (suc more) e = none-some n (sym (ap (option_and_then (upwards ns more)) none) ∙ e)
 
-    by : (o : Option ℕ) → parent_at ns m ≡ o → m ≢ n → (most : ℕ) → depth_by (node ns m) ≤ most → IsWithin ns n m ⊎ (¬ IsWithin ns n m)
-    by None none off most enough = inr (λ w. alone none off w.0 w.1)
-    by (Some p) up off zero enough = let deeper = parent-lower ns sound m p up in absurd (omega (arith, deeper, enough))
-    by (Some p) up off (suc most) enough =
-        let deeper = parent-lower ns sound m p up in
-        elim (within-or-not ns sound n most p (omega (arith, deeper, enough))) [
-          | inl w ↦ inl (up-more ns m p n up w)
-          | inr none ↦ inr (λ w. below p up off none w.0 w.1)
-        ]
+    by : (o : Option ℕ) → parent_at ns m ≡ o → m ≢ n → ((p : ℕ) → parent_at ns m ≡ Some p → IsWithin ns n p ⊎ (¬ IsWithin ns n p)) → IsWithin ns n m ⊎ (¬ IsWithin ns n m)
+    by None none off on = inr (λ w. alone none off w.0 w.1)
+    by (Some p) up off on = elim (on p up) [ inl w ↦ inl (up-more ns m p n up w) | inr none ↦ inr (λ w. below p up off none w.0 w.1) ]
 
 module _ (c : Compiled) (ns ms : Nodes) (k l : KeptState) (turn : Turn) (old : IsWhole c ns k) (new : IsWhole c ms l) (turned : Turns ns ms turn)
     (was : ℕ → Option ElementSign) (signs : (n : ℕ) → was n ≡ sign_at k.records.slots n) (moved : List ℕ)
@@ -113,9 +120,9 @@ module _ (c : Compiled) (ns ms : Nodes) (k l : KeptState) (turn : Turn) (old : I
 
   free-own : (n : ℕ) → IsFree n → seen_element (entry_at l.records.slots n) ≡ seen_element (entry_at k.records.slots n)
   free-own n free =
-      let as = free-before n free in
+      let same = free-before n free in
       let off = not-own n free in
-      (turned-seen (set_of c) (one-outcome c.parts) old.beside.over.1.stands.table old.beside.over.1.usable.named.attributes (models_of c) ns ms k.records.slots l.records.slots k.lists l.lists k.root_ids l.root_ids n as.pair
+      (turned-seen (set_of c) (one-outcome c.parts) old.beside.over.1.stands.table old.beside.over.1.usable.named.attributes (models_of c) ns ms k.records.slots l.records.slots k.lists l.lists k.root_ids l.root_ids n same.pair
       (fit-of c ns k old n (made-of c ns k old n free.stays.before)) (fit-of c ms l new n (made-of c ms l new n free.stays.after)) (head-stays c ns ms k l turn old new turned n free.stays off)
       (texts-stay c ns ms k l turn old new turned n free.stays off) (turned.texts n free.stays off) (children-stay c ns ms k l turn old new turned n free.stays (not-list n free))
       (names-stay c ns ms k l turn old new turned n free.stays (not-list n free))).sight
@@ -147,8 +154,8 @@ module _ (c : Compiled) (ns ms : Nodes) (k l : KeptState) (turn : Turn) (old : I
     where
       by : (m : ℕ) → Stays ns ms m → IsWithin ms m n → IsLookedAt c.parts ms l.records.slots was moved m → IsSame m
       by m stays above (looked.same x e) =
-          let as = as-before c ns ms k l turn old new turned m stays.after (sym (signs m) ∙ e) in
-          record { stays = stays; name = as.name; constraints = ap (λ (g : Governing). constraints_by c.parts g.declaration) as.pair }
+          let same = as-before c ns ms k l turn old new turned m stays.after (sym (signs m) ∙ e) in
+          record { stays = stays; name = same.name; constraints = ap (λ (g : Governing). constraints_by c.parts g.declaration) same.pair }
       by m stays above (looked.steady x a b has before after steady below) =
           let then = same_Some (record { name = name_at ns m; pair = pair_at k.records.slots m }) a (sym (sign-is c ns k old m (made-of c ns k old m stays.before)) ∙ sym (signs m) ∙ before) in
           let now = same_Some (record { name = name_at ms m; pair = pair_at l.records.slots m }) b (sym (sign-is c ms l new m (made-of c ms l new m stays.after)) ∙ after) in

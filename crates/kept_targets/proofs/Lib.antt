@@ -19,3 +19,4 @@ mod Retargeted
 mod Opened
 mod Sited
 mod Bridged
+mod Emptied

@@ -1,6 +1,6 @@
 -- The child elements whose names are ambivalent, one after another.
-use Rattle.std.proofs.Common.{◌≡◌, ◌+◌, ◌<◌, ◌≤◌, ℕ, suc, List, [], ◌∷◌, length, map, Option, None, Some, inl, inr, refl, sym, ap, ◌∙◌, subst, arith}
-use Rattle.std.specs.Prelude.{slice_get}
+use Rattle.std.proofs.Common.{◌≡◌, ◌+◌, ◌<◌, ◌≤◌, ℕ, zero, suc, List, [], ◌∷◌, length, map, Option, None, Some, inl, inr, refl, sym, ap, ◌∙◌, subst, arith}
+use Rattle.std.specs.Prelude.{slice_get, MatchOption}
 use Rattle.std.proofs.lemmas.Bool.{cases_eq}
 use Rattle.std.proofs.lemmas.Option.{none-some, same_Some, slice_get_past}
 use Rattle.xs_names.specs.Names.{NameTable}
@@ -21,18 +21,22 @@ use Rattle.child_lists.proofs.Terms.{many-symbols}
 use Rattle.child_lists.specs.from_kept_records.Fit.{models_of, model_at, symbols_at, IsListed}
 use Rattle.child_lists.specs.from_kept_records.Slots.{KeptSlots}
 use Rattle.child_lists.specs.from_kept_state.KeptState.{KeptState}
-use Rattle.kept_targets.specs.Moved.{IsLookedAt, IsMarked}
+use Rattle.kept_targets.specs.Moved.{IsLookedAt, IsMarked, marks}
 use Rattle.kept_targets.specs.declared.keys.ElementSign.{ElementSign}
 use Rattle.kept_targets.proofs.Adding.{looked-more, place-before}
 
 -- ---- by the list
 
-pub unlisted : (v : ListsView) (model : Option ContentAutomaton) (list : Option ModelList) (symbols : List ℕ) → list ≡ None → IsListed v model list symbols → (place : ℕ) → Has place (marked_places model symbols) → ⊥
-unlisted v model list symbols e listed place h = by model (subst (λ (l : Option ModelList). IsListed v model l symbols) e listed) h
+pub unlisted : (v : ListsView) (model : Option ContentAutomaton) (list : Option ModelList) (symbols : List ℕ) → list ≡ None → IsListed v model list symbols → (number : ℕ) → slice_get (marked_places model symbols) number ≡ None
+unlisted v model list symbols e listed number = by model (subst (λ (l : Option ModelList). IsListed v model l symbols) e listed)
   where
-    by : (m : Option ContentAutomaton) → IsListed v m None symbols → Has place (marked_places m symbols) → ⊥
-    by None l k = k
-    by (Some a) l k = l
+    empty : (i : ℕ) → slice_get [] i ≡ None
+    empty zero = refl
+    empty (suc i) = refl
+
+    by : (m : Option ContentAutomaton) → IsListed v m None symbols → slice_get (marked_places m symbols) number ≡ None
+    by None l = empty number
+    by (Some a) l = absurd l
 
 pub marked-get : (v : ListsView) (model : Option ContentAutomaton) (list : Option ModelList) (h : ModelList) (symbols : List ℕ) → list ≡ Some h → IsListed v model list symbols → (found : Option ℕ) (number : ℕ)
     → ((a : ContentAutomaton) (xs : List ℕ) → IsListOf v h a xs → found ≡ slice_get (ambivalent_places a xs) number) → found ≡ slice_get (marked_places model symbols) number
@@ -67,30 +71,34 @@ module _ (names : NameTable) (ns : Nodes) (model : Option ContentAutomaton) (n :
   pub few-all : length places ≤ length (element_children ns n)
   few-all = let h = few-places model (child_symbols names model (map (name_at ns) (element_children ns n))) in let m = many-symbols names model (name_at ns) (element_children ns n) in omega (arith, h, m)
 
+-- the child element at the place, if there is one
+pub at-child : (c : Compiled) (ns : Nodes) (k : KeptState) (n number place : ℕ) → Some place ≡ slice_get (marks c ns k n) number → (found : Option ℕ) → found ≡ slice_get (element_children ns n) place
+    → MatchOption found (slice_get (marks c ns k n) number ≡ None) (λ child. (p : ℕ) × (slice_get (marks c ns k n) number ≡ Some p) × (slice_get (element_children ns n) p ≡ Some child))
+at-child c ns k n number place e None none =
+    absurd (child-at (set_of c).names ns (model_at (set_of c) (models_of c) ns k.records.slots n) n number place (sym e) (sym none))
+at-child c ns k n number place e (Some child) there = (place, sym e, sym there)
+
 has-place : (xs : List ℕ) (x : ℕ) → Has x xs → (place : ℕ) × (slice_get xs place ≡ Some x)
 has-place [] x h = absurd h
 has-place (y ∷ ys) x h = elim h [ inl e ↦ (0, ap Some e) | inr later ↦ let r = has-place ys x later in (suc r.0, r.1) ]
 
 module _ (c : Compiled) (ns : Nodes) (k : KeptState) (was : ℕ → Option ElementSign) (n : ℕ) (but : Option ℕ) where
-  abbrev marks : List ℕ
-  marks = marked_places (model_at (models_of c) k.records.slots n) (symbols_at (set_of c) (models_of c) ns k.records.slots n)
-
   abbrev pub AreMarkedUpTo : List ℕ → ℕ → Type 0
   AreMarkedUpTo moved number =
-      (i place child : ℕ) → i < number → slice_get marks i ≡ Some place → slice_get (element_children ns n) place ≡ Some child → (but ≡ Some child → ⊥) → IsLookedAt c.parts ns k.records.slots was moved child
+      (i place child : ℕ) → i < number → slice_get (marks c ns k n) i ≡ Some place → slice_get (element_children ns n) place ≡ Some child → (but ≡ Some child → ⊥) → IsLookedAt c.parts ns k.records.slots was moved child
 
-  pub marked-next : (number place child : ℕ) (old new : List ℕ) → slice_get marks number ≡ Some place → slice_get (element_children ns n) place ≡ Some child → ((m : ℕ) → Has m old → Has m new)
+  pub marked-next : (number place child : ℕ) (old new : List ℕ) → slice_get (marks c ns k n) number ≡ Some place → slice_get (element_children ns n) place ≡ Some child → ((m : ℕ) → Has m old → Has m new)
       → ((but ≡ Some child → ⊥) → IsLookedAt c.parts ns k.records.slots was new child) → AreMarkedUpTo old number → AreMarkedUpTo new (number + 1)
   marked-next number place child old new e f still own done i p x l g h off =
       elim (cases_eq i number) [
         | inl q ↦
-            let same_place = same_Some p place (sym g ∙ ap (slice_get marks) q ∙ e) in
+            let same_place = same_Some p place (sym g ∙ ap (slice_get (marks c ns k n)) q ∙ e) in
             let same = same_Some x child (sym h ∙ ap (slice_get (element_children ns n)) same_place ∙ f) in
             subst (IsLookedAt c.parts ns k.records.slots was new) (sym same) (own (λ b. off (b ∙ ap Some (sym same))))
         | inr other ↦ looked-more c.parts ns k.records.slots was old new still x (done i p x (omega (arith, l, other)) g h off)
       ]
 
-  pub marked-all : (number : ℕ) (moved : List ℕ) → slice_get marks number ≡ None → AreMarkedUpTo moved number → (x : ℕ) → IsMarked c ns k n x → (but ≡ Some x → ⊥) → IsLookedAt c.parts ns k.records.slots was moved x
+  pub marked-all : (number : ℕ) (moved : List ℕ) → slice_get (marks c ns k n) number ≡ None → AreMarkedUpTo moved number → (x : ℕ) → IsMarked c ns k n x → (but ≡ Some x → ⊥) → IsLookedAt c.parts ns k.records.slots was moved x
   marked-all number moved ended done x marked off =
-      let at = has-place marks marked.place marked.marked in
-      done at.0 marked.place x (place-before marks number at.0 marked.place ended at.1) at.1 marked.there off
+      let at = has-place (marks c ns k n) marked.place marked.marked in
+      done at.0 marked.place x (place-before (marks c ns k n) number at.0 marked.place ended at.1) at.1 marked.there off

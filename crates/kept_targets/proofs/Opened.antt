@@ -20,7 +20,7 @@ use Rattle.child_lists.specs.from_kept_state.KeptState.{KeptState}
 use Rattle.kept_targets.specs.Counting.{Adopts, AreScopesAbove, CanAdopt, Finds, Forgets, IsCounting}
 use Rattle.kept_targets.specs.Kept.{AreTargets, IsTargetOf, sign_at}
 use Rattle.kept_targets.specs.Moved.{IsLookedAt}
-use Rattle.kept_targets.specs.Moved.IsLookedAt as looked
+use Rattle.kept_targets.specs.Moved.{IsLookedAt as looked}
 use Rattle.kept_targets.specs.Touched.{IsTouching}
 use Rattle.kept_targets.specs.Turned.{Opens, gone_of, lowest_of, own_of}
 use Rattle.kept_targets.specs.Whole.{IsWhole}
@@ -30,16 +30,10 @@ use Rattle.kept_targets.specs.declared.keys.TargetKeys.{TargetKeys}
 use Rattle.kept_targets.specs.declared.turn.Turn.{Turn}
 use Rattle.kept_targets.proofs.Among.{has-or-not}
 use Rattle.kept_targets.proofs.Counts.{target-goes}
+use Rattle.kept_targets.proofs.Emptied.{nothing}
 use Rattle.kept_targets.proofs.Links.{parent-lower}
 use Rattle.kept_targets.proofs.Looking.{above-there, doc, element-of, made-of, root-there, sign-is, sound}
 use Rattle.kept_targets.proofs.Retargeted.{made-or-not, no-sign, no-targets}
-
-none-at : {T : Type 0} (n : ℕ) → at {T = T} [] n ≡ None
-none-at zero = refl
-none-at (suc n) = refl
-
-nothing : (n : ℕ) → ¬ IsMade [] n
-nothing n made = none-some made.0 (sym (none-at n) ∙ made.1)
 
 module _ (c : Compiled) (ms : Nodes) (l : KeptState) (new : IsWhole c ms l) (keys : TargetKeys) (turn : Turn) (opens : Opens c ms keys turn) where
   no-targets-yet : (n : ℕ) → targets_of keys.counted n ≡ []
@@ -61,15 +55,17 @@ module _ (c : Compiled) (ms : Nodes) (l : KeptState) (new : IsWhole c ms l) (key
   lowest-open = ap (λ (t : Turn). is_element_at ms (lowest_of t)) opens.root ∙ root-there c ms l new
 
   within-root : (levels n : ℕ) → is_element_at ms n ≡ true → depth_by (node ms n) ≤ levels → IsWithin ms 1 n
-  within-root levels n is few = by (parent_at ms n) refl levels few
+  within-root zero n is few = by (parent_at ms n) refl
     where
-      by : (o : Option ℕ) → parent_at ms n ≡ o → (most : ℕ) → depth_by (node ms n) ≤ most → IsWithin ms 1 n
-      by None none most enough = (0, ap Some (root-alone c.names ms (doc c ms l new) new.beside.over.1.stands n is none))
-      by (Some p) up zero enough = let deeper = parent-lower ms (sound c ms l new) n p up in absurd (omega (arith, deeper, enough))
-      by (Some p) up (suc most) enough =
-          let deeper = parent-lower ms (sound c ms l new) n p up in
-          let above = within-root most p (above-there c ms l new n p up) (omega (arith, deeper, enough)) in
-          (suc above.0, ap (option_and_then (upwards ms above.0)) up ∙ above.1)
+      by : (o : Option ℕ) → parent_at ms n ≡ o → IsWithin ms 1 n
+      by None none = (0, ap Some (root-alone c.names ms (doc c ms l new) new.beside.over.1.stands n is none))
+      by (Some p) up = let deeper = parent-lower ms (sound c ms l new) n p up in absurd (omega (arith, deeper, few))
+  within-root (suc levels) n is few =
+      by (parent_at ms n) refl (λ p up. within-root levels p (above-there c ms l new n p up) (let deeper = parent-lower ms (sound c ms l new) n p up in omega (arith, deeper, few)))
+    where
+      by : (o : Option ℕ) → parent_at ms n ≡ o → ((p : ℕ) → parent_at ms n ≡ Some p → IsWithin ms 1 p) → IsWithin ms 1 n
+      by None none on = (0, ap Some (root-alone c.names ms (doc c ms l new) new.beside.over.1.stands n is none))
+      by (Some p) up on = let above = on p up in (suc above.0, ap (option_and_then (upwards ms above.0)) up ∙ above.1)
 
   module _ (mid : TargetKeys) (forgets : Forgets keys mid (gone_of turn)) where
     no-targets-mid : (n : ℕ) → targets_of mid.counted n ≡ []
