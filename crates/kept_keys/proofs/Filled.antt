@@ -57,29 +57,29 @@ use Rattle.kept_keys.proofs.Whole.{made-there, numbered, seen-once, settled, the
 
 kept-has : (f : ℕ → Bool) (x : ℕ) (xs : List ℕ) → Has x xs → f x ≡ true → Has x (filter f xs)
 kept-has f x [] h is = absurd h
-kept-has f x (y ∷ ys) h is = by (f y) refl h
+kept-has f x (y ∷ ys) h is = by (λ later. kept-has f x ys later is) (f y) refl h
   where
-    by : (b : Bool) → f y ≡ b → Has x (y ∷ ys) → Has x (cond b (y ∷ filter f ys) (filter f ys))
-    by true e (inl same) = inl same
-    by true e (inr later) = inr (kept-has f x ys later is)
-    by false e (inl same) = absurd (true≢false (sym is ∙ ap f (sym same) ∙ e))
-    by false e (inr later) = kept-has f x ys later is
+    by : (Has x ys → Has x (filter f ys)) → (b : Bool) → f y ≡ b → Has x (y ∷ ys) → Has x (cond b (y ∷ filter f ys) (filter f ys))
+    by more true e (inl same) = inl same
+    by more true e (inr later) = inr (more later)
+    by more false e (inl same) = absurd (true≢false (sym is ∙ ap f (sym same) ∙ e))
+    by more false e (inr later) = more later
 
 kept-lacks : (f : ℕ → Bool) (x : ℕ) (xs : List ℕ) → Lacks x xs → Lacks x (filter f xs)
 kept-lacks f x [] l = tt
-kept-lacks f x (y ∷ ys) l = by (f y)
+kept-lacks f x (y ∷ ys) l = by (kept-lacks f x ys l.1) (f y)
   where
-    by : (b : Bool) → Lacks x (cond b (y ∷ filter f ys) (filter f ys))
-    by true = (l.0, kept-lacks f x ys l.1)
-    by false = kept-lacks f x ys l.1
+    by : Lacks x (filter f ys) → (b : Bool) → Lacks x (cond b (y ∷ filter f ys) (filter f ys))
+    by more true = (l.0, more)
+    by more false = more
 
 kept-distinct : (f : ℕ → Bool) (xs : List ℕ) → Distinct xs → Distinct (filter f xs)
 kept-distinct f [] d = tt
-kept-distinct f (y ∷ ys) d = by (f y)
+kept-distinct f (y ∷ ys) d = by (kept-distinct f ys d.1) (f y)
   where
-    by : (b : Bool) → Distinct (cond b (y ∷ filter f ys) (filter f ys))
-    by true = (kept-lacks f y ys d.0, kept-distinct f ys d.1)
-    by false = kept-distinct f ys d.1
+    by : Distinct (filter f ys) → (b : Bool) → Distinct (cond b (y ∷ filter f ys) (filter f ys))
+    by more true = (kept-lacks f y ys d.0, more)
+    by more false = more
 
 -- ---- numbers of what is seen
 
