@@ -22,7 +22,7 @@ use Rattle.kept_inverses.specs.from_kept_changes.Spot.{Spot}
 use Rattle.kept_inverses.specs.from_kept_changes.Spot.TheVariants.{Planted, Pruned, Retexted, Attributed, Renamed}
 use Rattle.kept_inverses.specs.from_kept_forgetting.Below.{upwards, IsWithin}
 use Rattle.kept_inverses.proofs.from_kept_changes.Came.{come-elements}
-use Rattle.kept_inverses.proofs.from_kept_changes.Changed.{child-up, flat-same}
+use Rattle.kept_inverses.proofs.from_kept_changes.Changed.{flat-same}
 use Rattle.kept_inverses.proofs.from_kept_changes.Gone.{has-below}
 use Rattle.kept_inverses.proofs.from_kept_children.Still.{IsStill, still-node, still-held, says-same, scope-still, element-silent}
 use Rattle.kept_inverses.proofs.from_kept_forgetting.Placed.{has-at, parent-has, parent-element, root-alone}
@@ -31,7 +31,7 @@ use Rattle.kept_inverses.proofs.from_kept_records.Nodes.{by-node}
 use Rattle.kept_keys.specs.from_kept_targets.Moved.{Adds}
 use Rattle.kept_keys.specs.from_kept_targets.Turn.{Turn}
 use Rattle.kept_keys.specs.from_kept_targets.Turn.TheVariants as turns
-use Rattle.kept_keys.specs.from_kept_targets.Turned.{Stays, Turns, listed_of}
+use Rattle.kept_keys.specs.from_kept_targets.Turned.{Stays, Turns}
 use Rattle.edit_session.specs.Turning.{IsGone, IsTurnOf}
 
 -- ---- lists
@@ -319,10 +319,14 @@ module _ (t : NameTable) (old new : Nodes) (d : Document) (z : StandsFor t old d
         | inr other ↦ elim (cases_eq m h.parent) [ inl q ↦ absurd (at-parent q) | inr above ↦ absurd (stays-not above other e) ]
       ]
 
+  away-by : (m : ℕ) → IsWithin old n m → (b : Bool) → is_element_at new m ≡ b → is_element_at new m ≡ false
+  away-by m within true here = absurd (left-out m here within)
+  away-by m within false not = not
+
   gone-turns : (turn : Turn) → IsGone old n turn → Turns old new turn
   gone-turns turn is =
       let same_parent : h.parent ≡ is.parent = same_Some h.parent is.parent (sym parent-is ∙ is.parent_is) in
-      subst (Turns old new) (ap (λ q. turns.Gone q is.numbers) same_parent ∙ sym is.is) (record {
+      let so : Turns old new (turns.Gone h.parent is.numbers) = record {
         lowest = (left-still h.parent (record h.child.0 { children = fewer }, left-held)).element ∙ parent-element t old d z n h.parent parent-is;
         parents = λ m stays. (left-still m (stays-left m stays)).parent;
         scopes = λ m stays. scopes-stay old new z.links now Left left-up h.parent h.child.0 h.child.1 fewer left-held left-same m (stays-left m stays);
@@ -335,12 +339,9 @@ module _ (t : NameTable) (old new : Nodes) (d : Document) (z : StandsFor t old d
             children-stay old new z.links now Left left-up h.parent h.child.0 h.child.1 fewer left-held left-same m left off (left-down m left off);
         come = λ m here absent. absurd (apart (is_element_at old m) (sym (left-still m (by-node new m (node new m) refl here)).element ∙ here) absent);
         gone = λ m was not. (is.those m).1 (was, gone-within m was not);
-        away = λ m among. away-by m ((is.those m).0 among) (is_element_at new m) refl;
-      })
-    where
-      away-by : (m : ℕ) → (is_element_at old m ≡ true) × IsWithin old n m → (b : Bool) → is_element_at new m ≡ b → is_element_at new m ≡ false
-      away-by m within true here = absurd (left-out m here within.1)
-      away-by m within false not = not
+        away = λ m among. away-by m ((is.those m).0 among).1 (is_element_at new m) refl;
+      } in
+      subst (λ (x : Turn). Turns old new x) (ap (λ (q : ℕ). turns.Gone q is.numbers) same_parent ∙ sym is.is) so
 
 -- ---- at the spot of a change
 
