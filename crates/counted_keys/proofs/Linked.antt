@@ -122,3 +122,23 @@ module _ (old new : CountedKeys) (n : ℕ) (parent : Option ℕ) (moves : Repare
         (records-still (links_by old.parents.items) (links_by new.parents.items) old.references (counted_all old.targets) old.records (linked-by old.parents.items) (linked-by new.parents.items)
         (λ m. elim (same_or_other m n) [ inl same ↦ inr (λ y. ap (λ (k : ℕ). is_in_table old.records.referred k y) same ∙ shows-none y) | inr off ↦ inl (sym (moves.others m off)) ]) kept.records);
   }
+
+-- ---- an element with the parent that it had
+
+module _ (old new : CountedKeys) (n : ℕ) (parent : Option ℕ) (moves : Reparents old new n parent) (same : parent ≡ parent_of old n) (kept : AreKept (links_by old.parents.items) old) where
+  parent-still : (m : ℕ) → parent_of new m ≡ parent_of old m
+  parent-still m =
+      elim (same_or_other m n) [
+        | inl is ↦ ap (parent_of new) is ∙ moves.here ∙ same ∙ ap (parent_of old) (sym is)
+        | inr off ↦ moves.others m off
+      ]
+
+  pub same-kept : AreKept (links_by new.parents.items) new
+  same-kept = record {
+    sound = subst (λ (x : References). AreReferences x) (sym moves.references) kept.sound;
+    parents = record { parents_are = λ m. refl; before = λ m p e. kept.parents.before m p (sym (parent-still m) ∙ e) };
+    records =
+        records-as (links_by new.parents.items) old.references new.references (counted_all old.targets) (counted_all new.targets) old.records new.records (sym moves.references) (ap counted_all (sym moves.targets)) (sym moves.records)
+        (records-still (links_by old.parents.items) (links_by new.parents.items) old.references (counted_all old.targets) old.records (linked-by old.parents.items) (linked-by new.parents.items)
+        (λ m. inl (sym (parent-still m))) kept.records);
+  }
