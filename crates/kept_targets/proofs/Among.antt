@@ -1,6 +1,5 @@
 -- Numbers among others.
 use Rattle.std.proofs.Common.{◌≡◌, ◌⊎◌, ◌+◌, ◌<◌, ℕ, zero, suc, Bool, true, false, List, [], ◌∷◌, ◌++◌, length, take, get_or, inl, inr, refl, subst, arith}
-use Rattle.std.specs.Prelude.{¬◌}
 use Rattle.std.proofs.lemmas.Bool.{cases_eq, false≢true, true≢false}
 use Rattle.doc_nodes.specs.Nodes.{Has, Lacks}
 

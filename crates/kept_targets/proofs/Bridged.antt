@@ -1,6 +1,5 @@
 -- All that is found anew, by what was right before: nothing, or all of a document that has become another.
 use Rattle.std.proofs.Common.{◌≡◌, ◌≢◌, ◌⊎◌, ◌++◌, ℕ, List, [], Option, Some, true, inl, inr, refl, sym, ap, ◌∙◌, subst}
-use Rattle.std.specs.Prelude.{¬◌}
 use Rattle.tree_rows.specs.Forest.{Document}
 use Rattle.identity_constraints.specs.Satisfied.{identity_at}
 use Rattle.identity_assessment.specs.Identity.{seen}

@@ -1,5 +1,5 @@
 -- What is kept of the elements of a document as targets of identity constraints: Structures 3.11.4.
-use Rattle.std.specs.Prelude.{◌≡◌, ◌≢◌, ℕ, ¬◌, List, [], Option, None}
+use Rattle.std.specs.Prelude.{◌≡◌, ◌≢◌, ℕ, List, [], Option, None}
 use Rattle.std.specs.Option.{option_map}
 use Rattle.identity_constraints.specs.Seen.{KeyElement, KeyForest, element}
 use Rattle.identity_assessment.specs.Identity.{seen_element}
