@@ -82,6 +82,10 @@ ends-at ns (suc levels) m n e = by (parent_at ns m) refl e (λ p f. ends-at ns l
     by None q f on = absurd (none-some n f)
     by (Some p) q f on = let h = on p f in record { last = h.last; there = ap (option_and_then (upwards ns levels)) q ∙ h.there; up = h.up }
 
+-- all elements at and below the child elements up to a place are there
+abbrev pub AreBelowUpTo : Nodes → ℕ → List ℕ → ℕ → Type 0
+AreBelowUpTo ns n numbers place = (i child m : ℕ) → i < place → slice_get (element_children ns n) i ≡ Some child → is_element_at ns m ≡ true → IsWithin ns child m → Has m numbers
+
 module _ (t : NameTable) (ns : Nodes) (d : Document) (z : StandsFor t ns d) where
   pub element-up : (levels m x : ℕ) → upwards ns levels m ≡ Some x → is_element_at ns m ≡ true → is_element_at ns x ≡ true
   element-up zero m x e is = subst (λ (y : ℕ). is_element_at ns y ≡ true) (same_Some m x e) is
@@ -99,19 +103,15 @@ module _ (t : NameTable) (ns : Nodes) (d : Document) (z : StandsFor t ns d) wher
     pub child-there : (place child : ℕ) → slice_get (element_children ns n) place ≡ Some child → (parent_at ns child ≡ Some n) × (is_element_at ns child ≡ true)
     child-there place child e = child-up ns z.links n child (has-at (element_children ns n) place child e)
 
-  -- all elements at and below the child elements up to a place are there
-  abbrev pub AreBelowUpTo : ℕ → List ℕ → ℕ → Type 0
-  AreBelowUpTo n numbers place = (i child m : ℕ) → i < place → slice_get (element_children ns n) i ≡ Some child → is_element_at ns m ≡ true → IsWithin ns child m → Has m numbers
-
   pub below-more : (n place child : ℕ) (old new : List ℕ) → slice_get (element_children ns n) place ≡ Some child → ((m : ℕ) → Has m old → Has m new)
-      → ((m : ℕ) → is_element_at ns m ≡ true → IsWithin ns child m → Has m new) → AreBelowUpTo n old place → AreBelowUpTo n new (place + 1)
+      → ((m : ℕ) → is_element_at ns m ≡ true → IsWithin ns child m → Has m new) → AreBelowUpTo ns n old place → AreBelowUpTo ns n new (place + 1)
   below-more n place child old new e still all done i x m l f is within =
       elim (cases_eq i place) [
         | inl q ↦ all m is (subst (λ (y : ℕ). IsWithin ns y m) (same_Some x child (sym f ∙ ap (slice_get (element_children ns n)) q ∙ e)) within)
         | inr other ↦ still m (done i x m (omega (arith, l, other)) f is within)
       ]
 
-  pub below-all : (n place : ℕ) (numbers : List ℕ) → slice_get (element_children ns n) place ≡ None → Has n numbers → AreBelowUpTo n numbers place → (m : ℕ) → is_element_at ns m ≡ true → IsWithin ns n m → Has m numbers
+  pub below-all : (n place : ℕ) (numbers : List ℕ) → slice_get (element_children ns n) place ≡ None → Has n numbers → AreBelowUpTo ns n numbers place → (m : ℕ) → is_element_at ns m ≡ true → IsWithin ns n m → Has m numbers
   below-all n place numbers ended own done m is within = by within.0 within.1
     where
       by : (levels : ℕ) → upwards ns levels m ≡ Some n → Has m numbers

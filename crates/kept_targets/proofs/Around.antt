@@ -56,15 +56,17 @@ module _ (c : Compiled) (ns : Nodes) (k : KeptState) (whole : IsWhole c ns k) wh
   kin = kin_of ns k.records.slots
 
   above-to : (levels n : ℕ) → depth_by (node ns n) ≤ levels → (above : List KeyElement) × AreAbove kin (parent_at ns n) above
-  above-to levels n few = by (parent_at ns n) refl levels few
+  above-to zero n few = by (parent_at ns n) refl
     where
-      by : (o : Option ℕ) → parent_at ns n ≡ o → (most : ℕ) → depth_by (node ns n) ≤ most → (above : List KeyElement) × AreAbove kin o above
-      by None none most enough = ([], tt)
-      by (Some p) up zero enough = let deeper = parent-lower ns (sound c ns k whole) n p up in absurd (omega (arith, deeper, enough))
-      by (Some p) up (suc most) enough =
-          let deeper = parent-lower ns (sound c ns k whole) n p up in
-          let more = above-to most p (omega (arith, deeper, enough)) in
-          (seen_element (entry_at k.records.slots p) ∷ more.0, (refl, more.1))
+      by : (o : Option ℕ) → parent_at ns n ≡ o → (above : List KeyElement) × AreAbove kin o above
+      by None none = ([], tt)
+      by (Some p) up = let deeper = parent-lower ns (sound c ns k whole) n p up in absurd (omega (arith, deeper, few))
+  above-to (suc levels) n few =
+      by (parent_at ns n) refl (λ p up. above-to levels p (let deeper = parent-lower ns (sound c ns k whole) n p up in omega (arith, deeper, few)))
+    where
+      by : (o : Option ℕ) → parent_at ns n ≡ o → ((p : ℕ) → parent_at ns n ≡ Some p → (above : List KeyElement) × AreAbove kin (parent_at ns p) above) → (above : List KeyElement) × AreAbove kin o above
+      by None none on = ([], tt)
+      by (Some p) up on = let more = on p up in (seen_element (entry_at k.records.slots p) ∷ more.0, (refl, more.1))
 
   pub above-of : (n : ℕ) → (above : List KeyElement) × AreAbove kin (parent_at ns n) above
   above-of n = above-to (depth_by (node ns n)) n (omega arith)

@@ -75,7 +75,13 @@ module _ (names : NameTable) (t : Tables) (identities : List IdentityPaths) (ns 
   found-at n (text number chars next) r are few h =
       let later = found-at n next r are (omega (arith, few)) h in record { below = later.below; seen_is = later.seen_is; codes = later.codes }
   found-at n (element number name bindings attributes children next) r are few h =
-      elim h [ inl e ↦ own e | inr more ↦ elim more [ inl below ↦ inner below | inr later ↦ outer later ] ]
+      elim h [
+        | inl e ↦ own e
+        | inr more ↦ elim more [
+          | inl below ↦ inner below (found-at n children r.1 (λ m k. are m (inr (inl k))) (omega (arith, few)) below)
+          | inr later ↦ outer later (found-at n next r.2 (λ m k. are m (inr (inr k))) (omega (arith, few)) later)
+        ]
+      ]
     where
       at-own : List Found
       at-own = identity_codes names t identities (seen_element (entry_at ks number)) (seen (found_in ns ks children))
@@ -105,24 +111,22 @@ module _ (names : NameTable) (t : Tables) (identities : List IdentityPaths) (ns 
       off-own : (number ≡ n → ⊥) → ((entry_at ks number).number == n) ≡ false
       off-own off = ne_eqb (entry_at ks number).number n (λ e. off (sym (are number (inl refl)) ∙ e))
 
-      inner : HasElement n children → IsFoundAt n (element number name bindings attributes children next)
-      inner k =
+      inner : HasElement n children → IsFoundAt n children → IsFoundAt n (element number name bindings attributes children next)
+      inner k found =
           let more = once n children k in
           let off = off-own (λ e. let here : weight (number == n) ≡ 1 = ap weight (eq-eqb number n e) in omega (arith, here, more, few)) in
           let two = none-in n next are-behind (λ q. let again = once n next q in omega (arith, again, more, few)) in
-          let found = found-at n children r.1 are-below (omega (arith, few)) k in
           record {
             below = found.below;
             seen_is = found.seen_is;
             codes = (λ i. (if off i then at-own else []) ++ (codes-in n children ++ two i)) ∙ append-nil (codes-in n children) ∙ found.codes;
           }
 
-      outer : HasElement n next → IsFoundAt n (element number name bindings attributes children next)
-      outer k =
+      outer : HasElement n next → IsFoundAt n next → IsFoundAt n (element number name bindings attributes children next)
+      outer k found =
           let more = once n next k in
           let off = off-own (λ e. let here : weight (number == n) ≡ 1 = ap weight (eq-eqb number n e) in omega (arith, here, more, few)) in
           let one = none-in n children are-below (λ q. let again = once n children q in omega (arith, again, more, few)) in
-          let found = found-at n next r.2 are-behind (omega (arith, few)) k in
           record {
             below = found.below;
             seen_is = found.seen_is;

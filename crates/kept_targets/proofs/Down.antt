@@ -22,14 +22,27 @@ use Rattle.kept_targets.proofs.Looking.{doc, made-of, sound}
 
 module _ (c : Compiled) (ns : Nodes) (k : KeptState) (whole : IsWhole c ns k) where
   -- an element of which something is kept is seen, and what is below and behind it
-  first-seen : (n : ℕ) → IsMade k.records.slots n → (below next : KeyForest) → (ns_more : List ℕ) → AreSeen (kin_of ns k.records.slots) (element_children ns n) below → AreSeen (kin_of ns k.records.slots) ns_more next
-      → AreSeen (kin_of ns k.records.slots) (n ∷ ns_more) (first_seen (at k.records.slots n) below next)
+  first-seen : (n : ℕ) → IsMade k.records.slots n → (below next : KeyForest) → (more : List ℕ) → AreSeen (kin_of ns k.records.slots) (element_children ns n) below → AreSeen (kin_of ns k.records.slots) more next
+      → AreSeen (kin_of ns k.records.slots) (n ∷ more) (first_seen (at k.records.slots n) below next)
   first-seen n made below next more under behind =
       let own : seen_element (entry_of made.0.found) ≡ seen_element (entry_at k.records.slots n) = ap (λ (o : Option KeptElement). seen_element (entry_of (unwrap_or o blank).found)) (sym made.1) in
       subst (λ (o : Option KeptElement). AreSeen (kin_of ns k.records.slots) (n ∷ more) (first_seen o below next)) (sym made.1) (own, (under, behind))
 
   abbrev IsLow : ℕ → ℕ → Type 0
   IsLow levels n = (is_element_at ns n ≡ true) × (MAX_DEPTH + 1 ≤ depth_by (node ns n) + levels)
+
+  along-seen : (below : ℕ → KeyForest) (ys : List ℕ) → ((y : ℕ) → Has y ys → IsMade k.records.slots y × AreSeen (kin_of ns k.records.slots) (element_children ns y) (below y))
+      → AreSeen (kin_of ns k.records.slots) ys (along k.records.slots below ys)
+  along-seen below [] each = tt
+  along-seen below (y ∷ ys) each =
+      let own = each y (inl refl) in first-seen y own.0 (below y) (along k.records.slots below ys) ys own.1 (along-seen below ys (λ z h. each z (inr h)))
+
+  lower : (levels y : ℕ) → IsLow (suc levels) y → (x : ℕ) → Has x (element_children ns y) → IsLow levels x
+  lower levels y own x h =
+      let up = child-up ns (sound c ns k whole) y x h in
+      let deeper = parent-lower ns (sound c ns k whole) x y up.0 in
+      let deep = own.1 in
+      (up.1, omega (arith, deeper, deep))
 
   -- with as many levels as there can be below
   pub seen-down : (levels : ℕ) (xs : List ℕ) → ((x : ℕ) → Has x xs → IsLow levels x) → AreSeen (kin_of ns k.records.slots) xs (seen_to k.records.slots ns levels xs)
@@ -39,18 +52,5 @@ module _ (c : Compiled) (ns : Nodes) (k : KeptState) (whole : IsWhole c ns k) wh
       let few = element-depth c.names ns (doc c ns k whole) whole.beside.over.1.stands x own.0 in
       let deep = own.1 in
       absurd (omega (arith, few, deep))
-  seen-down (suc levels) xs low = each xs low
-    where
-      under : (x : ℕ) → IsLow (suc levels) x → AreSeen (kin_of ns k.records.slots) (element_children ns x) (seen_to k.records.slots ns levels (element_children ns x))
-      under x own =
-          seen-down levels (element_children ns x) (λ y h.
-          let up = child-up ns (sound c ns k whole) x y h in
-          let deeper = parent-lower ns (sound c ns k whole) y x up.0 in
-          let deep = own.1 in
-          (up.1, omega (arith, deeper, deep)))
-
-      each : (ys : List ℕ) → ((y : ℕ) → Has y ys → IsLow (suc levels) y) → AreSeen (kin_of ns k.records.slots) ys (along k.records.slots (λ n. seen_to k.records.slots ns levels (element_children ns n)) ys)
-      each [] lows = tt
-      each (y ∷ ys) lows =
-          let own = lows y (inl refl) in
-          first-seen y (made-of c ns k whole y own.0) (seen_to k.records.slots ns levels (element_children ns y)) (along k.records.slots (λ n. seen_to k.records.slots ns levels (element_children ns n)) ys) ys (under y own) (each ys (λ z h. lows z (inr h)))
+  seen-down (suc levels) xs low =
+      along-seen (λ n. seen_to k.records.slots ns levels (element_children ns n)) xs (λ y h. (made-of c ns k whole y (low y h).0, seen-down levels (element_children ns y) (lower levels y (low y h))))

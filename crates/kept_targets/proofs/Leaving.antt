@@ -53,7 +53,20 @@ list-above ns (turns.Gone p numbers) n e = subst (IsWithin ns n) (sym (same_Some
 
 -- a number is another or above it, or is not
 within-or-not : (ns : Nodes) → IsSound ns → (n levels m : ℕ) → depth_by (node ns m) ≤ levels → IsWithin ns n m ⊎ (¬ IsWithin ns n m)
-within-or-not ns sound n levels m few = elim (cases_eq m n) [ inl e ↦ inl (0, ap Some e) | inr off ↦ by (parent_at ns m) refl off levels few ]
+within-or-not ns sound n zero m few = elim (cases_eq m n) [ inl e ↦ inl (0, ap Some e) | inr off ↦ by (parent_at ns m) refl off ]
+  where
+    alone : parent_at ns m ≡ None → m ≢ n → (up : ℕ) → upwards ns up m ≡ Some n → ⊥
+    alone none off zero e = off (same_Some m n e)
+    alone none off (suc more) e = none-some n (sym (ap (option_and_then (upwards ns more)) none) ∙ e)
+
+    by : (o : Option ℕ) → parent_at ns m ≡ o → m ≢ n → IsWithin ns n m ⊎ (¬ IsWithin ns n m)
+    by None none off = inr (λ w. alone none off w.0 w.1)
+    by (Some p) up off = let deeper = parent-lower ns sound m p up in absurd (omega (arith, deeper, few))
+within-or-not ns sound n (suc levels) m few =
+    elim (cases_eq m n) [
+      | inl e ↦ inl (0, ap Some e)
+      | inr off ↦ by (parent_at ns m) refl off (λ p up. within-or-not ns sound n levels p (let deeper = parent-lower ns sound m p up in omega (arith, deeper, few)))
+    ]
   where
     below : (p : ℕ) → parent_at ns m ≡ Some p → m ≢ n → ¬ IsWithin ns n p → (up : ℕ) → upwards ns up m ≡ Some n → ⊥
     below p up off none zero e = off (same_Some m n e)
@@ -63,15 +76,9 @@ within-or-not ns sound n levels m few = elim (cases_eq m n) [ inl e ↦ inl (0, 
     alone none off zero e = off (same_Some m n e)
     alone none off (suc more) e = none-some n (sym (ap (option_and_then (upwards ns more)) none) ∙ e)
 
-    by : (o : Option ℕ) → parent_at ns m ≡ o → m ≢ n → (most : ℕ) → depth_by (node ns m) ≤ most → IsWithin ns n m ⊎ (¬ IsWithin ns n m)
-    by None none off most enough = inr (λ w. alone none off w.0 w.1)
-    by (Some p) up off zero enough = let deeper = parent-lower ns sound m p up in absurd (omega (arith, deeper, enough))
-    by (Some p) up off (suc most) enough =
-        let deeper = parent-lower ns sound m p up in
-        elim (within-or-not ns sound n most p (omega (arith, deeper, enough))) [
-          | inl w ↦ inl (up-more ns m p n up w)
-          | inr none ↦ inr (λ w. below p up off none w.0 w.1)
-        ]
+    by : (o : Option ℕ) → parent_at ns m ≡ o → m ≢ n → ((p : ℕ) → parent_at ns m ≡ Some p → IsWithin ns n p ⊎ (¬ IsWithin ns n p)) → IsWithin ns n m ⊎ (¬ IsWithin ns n m)
+    by None none off on = inr (λ w. alone none off w.0 w.1)
+    by (Some p) up off on = elim (on p up) [ inl w ↦ inl (up-more ns m p n up w) | inr none ↦ inr (λ w. below p up off none w.0 w.1) ]
 
 module _ (c : Compiled) (ns ms : Nodes) (k l : KeptState) (turn : Turn) (old : IsWhole c ns k) (new : IsWhole c ms l) (turned : Turns ns ms turn)
     (was : ℕ → Option ElementSign) (signs : (n : ℕ) → was n ≡ sign_at k.records.slots n) (moved : List ℕ)

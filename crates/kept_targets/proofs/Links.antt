@@ -1,5 +1,5 @@
 -- Parents and child elements of nodes.
-use Rattle.std.proofs.Common.{◌≡◌, ◌<◌, ℕ, Bool, true, false, List, [], ◌∷◌, Option, None, Some, inl, inr, refl, sym, ap, ◌∙◌, subst, arith}
+use Rattle.std.proofs.Common.{◌≡◌, ◌<◌, ℕ, Bool, true, false, cond, List, [], ◌∷◌, Option, None, Some, inl, inr, refl, sym, ap, ◌∙◌, subst, arith}
 use Rattle.std.specs.Prelude.{filter}
 use Rattle.std.specs.Option.{option_and_then}
 use Rattle.doc_nodes.specs.Nodes.{Node, Nodes, IsSound, IsNode, Has, node, depth_by, children_by, is_element_at, element_children}
@@ -8,20 +8,11 @@ use Rattle.child_lists.proofs.from_kept_forgetting.Placed.{parent-has}
 
 filter-parts : (f : ℕ → Bool) (x : ℕ) (xs : List ℕ) → Has x (filter f xs) → Has x xs × (f x ≡ true)
 filter-parts f x [] h = absurd h
-filter-parts f x (y ∷ ys) h = by (f y) refl
+filter-parts f x (y ∷ ys) h = by (f y) refl h (λ k. filter-parts f x ys k)
   where
-    later : Has x (filter f ys) → Has x (y ∷ ys) × (f x ≡ true)
-    later k = let r = filter-parts f x ys k in (inr r.0, r.1)
-
-    by : (b : Bool) → f y ≡ b → Has x (y ∷ ys) × (f x ≡ true)
-    by true e = elim (subst (Has x) (kept e) h) [ inl same ↦ (inl same, ap f (sym same) ∙ e) | inr k ↦ later k ]
-      where
-        kept : f y ≡ true → filter f (y ∷ ys) ≡ y ∷ filter f ys
-        kept q = rw q refl
-    by false e = later (subst (Has x) (dropped e) h)
-      where
-        dropped : f y ≡ false → filter f (y ∷ ys) ≡ filter f ys
-        dropped q = rw q refl
+    by : (b : Bool) → f y ≡ b → Has x (cond b (y ∷ filter f ys) (filter f ys)) → (Has x (filter f ys) → Has x ys × (f x ≡ true)) → Has x (y ∷ ys) × (f x ≡ true)
+    by true e has on = elim has [ inl same ↦ (inl same, ap f (sym same) ∙ e) | inr k ↦ let r = on k in (inr r.0, r.1) ]
+    by false e has on = let r = on has in (inr r.0, r.1)
 
 module _ (ns : Nodes) (sound : IsSound ns) where
   -- a child element has its parent, and is an element

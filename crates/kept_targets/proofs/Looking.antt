@@ -150,11 +150,11 @@ module _ (c : Compiled) (ns ms : Nodes) (k l : KeptState) (turn : Turn) (old : I
 
   pub within-stays : (levels n r : ℕ) → Stays ns ms n → upwards ms levels n ≡ Some r → Stays ns ms r
   within-stays zero n r stays e = subst (Stays ns ms) (same_Some n r e) stays
-  within-stays (suc levels) n r stays e = by (parent_at ms n) refl
+  within-stays (suc levels) n r stays e = by (parent_at ms n) refl e (λ p up w. within-stays levels p r (stays-above n p stays up) w)
     where
-      by : (o : Option ℕ) → parent_at ms n ≡ o → Stays ns ms r
-      by None none = absurd (none-some r (sym (ap (option_and_then (upwards ms levels)) none) ∙ e))
-      by (Some p) up = within-stays levels p r (stays-above n p stays up) (sym (ap (option_and_then (upwards ms levels)) up) ∙ e)
+      by : (o : Option ℕ) → parent_at ms n ≡ o → option_and_then (upwards ms levels) o ≡ Some r → ((p : ℕ) → parent_at ms n ≡ Some p → upwards ms levels p ≡ Some r → Stays ns ms r) → Stays ns ms r
+      by None none w on = absurd (none-some r w)
+      by (Some p) up w on = on p up w
 
   -- below one that stays, what is not the own one of the turn stays
   pub child-stays : (q n : ℕ) → Stays ns ms q → parent_at ms n ≡ Some q → is_element_at ms n ≡ true → own_of turn ≢ Some n → Stays ns ms n
@@ -199,7 +199,7 @@ module _ (c : Compiled) (ns ms : Nodes) (k l : KeptState) (turn : Turn) (old : I
     was = child-place ns (sound c ns k old) n q (sym (turned.parents n stays) ∙ up) stays.before
 
     -- by the same term
-    by-term : term_in (model_at (models_of c) l.records.slots q) (symbols_at s (models_of c) ms l.records.slots q) place.0 ≡ term_in (model_at (models_of c) k.records.slots q) (symbols_at s (models_of c) ns k.records.slots q) was.0
+    by-term : term_in (model_at s (models_of c) ms l.records.slots q) (symbols_at s (models_of c) ms l.records.slots q) place.0 ≡ term_in (model_at s (models_of c) ns k.records.slots q) (symbols_at s (models_of c) ns k.records.slots q) was.0
         → pair_at l.records.slots n ≡ pair_at k.records.slots n
     by-term term =
         let now = ((fit-of c ms l new q (made-of c ms l new q as.stays.after)).gathered.given place.0 n place.1).pair_is in
@@ -211,11 +211,11 @@ module _ (c : Compiled) (ns ms : Nodes) (k l : KeptState) (turn : Turn) (old : I
     get-name xs i f e = get-map f xs i n e
 
     -- where its name is not ambivalent, the term goes by the name
-    unmarked : Lacks place.0 (marked_places (model_at (models_of c) l.records.slots q) (symbols_at s (models_of c) ms l.records.slots q)) → pair_at l.records.slots n ≡ pair_at k.records.slots n
+    unmarked : Lacks place.0 (marked_places (model_at s (models_of c) ms l.records.slots q) (symbols_at s (models_of c) ms l.records.slots q)) → pair_at l.records.slots n ≡ pair_at k.records.slots n
     unmarked lacks =
         let name = turned.names n stays (λ e. off (listed-own turn n e)) in
         by-term
-        (terms-same s.names (model_at (models_of c) l.records.slots q) (map (name_at ms) (element_children ms q)) (map (name_at ns) (element_children ns q)) place.0 was.0 (name_at ms n)
+        (terms-same s.names (model_at s (models_of c) ms l.records.slots q) (map (name_at ms) (element_children ms q)) (map (name_at ns) (element_children ns q)) place.0 was.0 (name_at ms n)
         (get-name (element_children ms q) place.0 (name_at ms) place.1)
         (get-name (element_children ns q) was.0 (name_at ns) was.1 ∙ ap Some (sym name)) lacks
         ∙ ap (λ (g : Governing). term_in (models_of c g.of) (child_symbols s.names (models_of c g.of) (map (name_at ns) (element_children ns q))) was.0) as.pair)
@@ -260,7 +260,7 @@ module _ (c : Compiled) (ns ms : Nodes) (k l : KeptState) (turn : Turn) (old : I
           elim (is-it (list_of ms turn) q) [
             | inl e ↦
                 let at = place q n as up stays off in
-                elim (has-or-lacks at.0 (marked_places (model_at (models_of c) l.records.slots q) (symbols_at s (models_of c) ms l.records.slots q))) [
+                elim (has-or-lacks at.0 (marked_places (model_at s (models_of c) ms l.records.slots q) (symbols_at s (models_of c) ms l.records.slots q))) [
                   | inl has ↦ marked q n e off (record { place = at.0; there = at.1; marked = has })
                   | inr lacks ↦ governed n stays off (unmarked q n as up stays off lacks)
                 ]
@@ -274,14 +274,17 @@ module _ (c : Compiled) (ns ms : Nodes) (k l : KeptState) (turn : Turn) (old : I
       child-looked (looked.whole p all) = looked.whole n (λ m element within. all m element (below-within ms q m (child-below ms n q m up within)))
 
     looked-to : (levels n : ℕ) → is_element_at ms n ≡ true → depth_by (node ms n) ≤ levels → IsLooked n
-    looked-to levels n is few = by (parent_at ms n) refl levels few
+    looked-to zero n is few = by (parent_at ms n) refl
       where
-        by : (o : Option ℕ) → parent_at ms n ≡ o → (most : ℕ) → depth_by (node ms n) ≤ most → IsLooked n
-        by None none most enough = subst IsLooked (sym (root-alone c.names ms (doc c ms l new) new.beside.over.1.stands n is none)) root-looked
-        by (Some p) up zero enough = let deeper = parent-lower ms (sound c ms l new) n p up in absurd (omega (arith, deeper, enough))
-        by (Some p) up (suc most) enough =
-            let deeper = parent-lower ms (sound c ms l new) n p up in
-            child-looked p n up is (looked-to most p (above-there c ms l new n p up) (omega (arith, deeper, enough)))
+        by : (o : Option ℕ) → parent_at ms n ≡ o → IsLooked n
+        by None none = subst IsLooked (sym (root-alone c.names ms (doc c ms l new) new.beside.over.1.stands n is none)) root-looked
+        by (Some p) up = let deeper = parent-lower ms (sound c ms l new) n p up in absurd (omega (arith, deeper, few))
+    looked-to (suc levels) n is few =
+        by (parent_at ms n) refl (λ p up. looked-to levels p (above-there c ms l new n p up) (let deeper = parent-lower ms (sound c ms l new) n p up in omega (arith, deeper, few)))
+      where
+        by : (o : Option ℕ) → parent_at ms n ≡ o → ((p : ℕ) → parent_at ms n ≡ Some p → IsLooked p) → IsLooked n
+        by None none on = subst IsLooked (sym (root-alone c.names ms (doc c ms l new) new.beside.over.1.stands n is none)) root-looked
+        by (Some p) up on = child-looked p n up is (on p up)
 
     pub all-looked : (n : ℕ) → is_element_at ms n ≡ true → IsLooked n
     all-looked n is = looked-to (depth_by (node ms n)) n is (omega arith)

@@ -21,7 +21,7 @@ use Rattle.child_lists.proofs.Terms.{many-symbols}
 use Rattle.child_lists.specs.from_kept_records.Fit.{models_of, model_at, symbols_at, IsListed}
 use Rattle.child_lists.specs.from_kept_records.Slots.{KeptSlots}
 use Rattle.child_lists.specs.from_kept_state.KeptState.{KeptState}
-use Rattle.kept_targets.specs.Moved.{IsLookedAt, IsMarked}
+use Rattle.kept_targets.specs.Moved.{IsLookedAt, IsMarked, marks}
 use Rattle.kept_targets.specs.declared.keys.ElementSign.{ElementSign}
 use Rattle.kept_targets.proofs.Adding.{looked-more, place-before}
 
@@ -72,25 +72,22 @@ has-place [] x h = absurd h
 has-place (y ∷ ys) x h = elim h [ inl e ↦ (0, ap Some e) | inr later ↦ let r = has-place ys x later in (suc r.0, r.1) ]
 
 module _ (c : Compiled) (ns : Nodes) (k : KeptState) (was : ℕ → Option ElementSign) (n : ℕ) (but : Option ℕ) where
-  abbrev marks : List ℕ
-  marks = marked_places (model_at (models_of c) k.records.slots n) (symbols_at (set_of c) (models_of c) ns k.records.slots n)
-
   abbrev pub AreMarkedUpTo : List ℕ → ℕ → Type 0
   AreMarkedUpTo moved number =
-      (i place child : ℕ) → i < number → slice_get marks i ≡ Some place → slice_get (element_children ns n) place ≡ Some child → (but ≡ Some child → ⊥) → IsLookedAt c.parts ns k.records.slots was moved child
+      (i place child : ℕ) → i < number → slice_get (marks c ns k n) i ≡ Some place → slice_get (element_children ns n) place ≡ Some child → (but ≡ Some child → ⊥) → IsLookedAt c.parts ns k.records.slots was moved child
 
-  pub marked-next : (number place child : ℕ) (old new : List ℕ) → slice_get marks number ≡ Some place → slice_get (element_children ns n) place ≡ Some child → ((m : ℕ) → Has m old → Has m new)
+  pub marked-next : (number place child : ℕ) (old new : List ℕ) → slice_get (marks c ns k n) number ≡ Some place → slice_get (element_children ns n) place ≡ Some child → ((m : ℕ) → Has m old → Has m new)
       → ((but ≡ Some child → ⊥) → IsLookedAt c.parts ns k.records.slots was new child) → AreMarkedUpTo old number → AreMarkedUpTo new (number + 1)
   marked-next number place child old new e f still own done i p x l g h off =
       elim (cases_eq i number) [
         | inl q ↦
-            let same_place = same_Some p place (sym g ∙ ap (slice_get marks) q ∙ e) in
+            let same_place = same_Some p place (sym g ∙ ap (slice_get (marks c ns k n)) q ∙ e) in
             let same = same_Some x child (sym h ∙ ap (slice_get (element_children ns n)) same_place ∙ f) in
             subst (IsLookedAt c.parts ns k.records.slots was new) (sym same) (own (λ b. off (b ∙ ap Some (sym same))))
         | inr other ↦ looked-more c.parts ns k.records.slots was old new still x (done i p x (omega (arith, l, other)) g h off)
       ]
 
-  pub marked-all : (number : ℕ) (moved : List ℕ) → slice_get marks number ≡ None → AreMarkedUpTo moved number → (x : ℕ) → IsMarked c ns k n x → (but ≡ Some x → ⊥) → IsLookedAt c.parts ns k.records.slots was moved x
+  pub marked-all : (number : ℕ) (moved : List ℕ) → slice_get (marks c ns k n) number ≡ None → AreMarkedUpTo moved number → (x : ℕ) → IsMarked c ns k n x → (but ≡ Some x → ⊥) → IsLookedAt c.parts ns k.records.slots was moved x
   marked-all number moved ended done x marked off =
-      let at = has-place marks marked.place marked.marked in
-      done at.0 marked.place x (place-before marks number at.0 marked.place ended at.1) at.1 marked.there off
+      let at = has-place (marks c ns k n) marked.place marked.marked in
+      done at.0 marked.place x (place-before (marks c ns k n) number at.0 marked.place ended at.1) at.1 marked.there off

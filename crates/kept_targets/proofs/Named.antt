@@ -53,12 +53,10 @@ module _ (c : Compiled) (ns : Nodes) (k : KeptState) (whole : IsWhole c ns k) wh
       let made : IsMade k.records.slots n = (own, e) in
       (subst (λ (o : Option KeptElement). IsNamed c.names (seen_element (entry_of (unwrap_or o blank).found))) e (named-at n made), (under, behind))
 
+  along-named : (below : ℕ → KeyForest) → ((n : ℕ) → AreNamed c.names (below n)) → (ys : List ℕ) → AreNamed c.names (along k.records.slots below ys)
+  along-named below under [] = tt
+  along-named below under (y ∷ ys) = first-named (at k.records.slots y) y refl (below y) (along k.records.slots below ys) (under y) (along-named below under ys)
+
   pub down-named : (levels : ℕ) (xs : List ℕ) → AreNamed c.names (seen_to k.records.slots ns levels xs)
   down-named zero xs = tt
-  down-named (suc levels) xs = each xs
-    where
-      each : (ys : List ℕ) → AreNamed c.names (along k.records.slots (λ n. seen_to k.records.slots ns levels (element_children ns n)) ys)
-      each [] = tt
-      each (y ∷ ys) =
-          first-named (at k.records.slots y) y refl (seen_to k.records.slots ns levels (element_children ns y)) (along k.records.slots (λ n. seen_to k.records.slots ns levels (element_children ns n)) ys)
-          (down-named levels (element_children ns y)) (each ys)
+  down-named (suc levels) xs = along-named (λ n. seen_to k.records.slots ns levels (element_children ns n)) (λ n. down-named levels (element_children ns n)) xs

@@ -61,15 +61,17 @@ module _ (c : Compiled) (ms : Nodes) (l : KeptState) (new : IsWhole c ms l) (key
   lowest-open = ap (λ (t : Turn). is_element_at ms (lowest_of t)) opens.root ∙ root-there c ms l new
 
   within-root : (levels n : ℕ) → is_element_at ms n ≡ true → depth_by (node ms n) ≤ levels → IsWithin ms 1 n
-  within-root levels n is few = by (parent_at ms n) refl levels few
+  within-root zero n is few = by (parent_at ms n) refl
     where
-      by : (o : Option ℕ) → parent_at ms n ≡ o → (most : ℕ) → depth_by (node ms n) ≤ most → IsWithin ms 1 n
-      by None none most enough = (0, ap Some (root-alone c.names ms (doc c ms l new) new.beside.over.1.stands n is none))
-      by (Some p) up zero enough = let deeper = parent-lower ms (sound c ms l new) n p up in absurd (omega (arith, deeper, enough))
-      by (Some p) up (suc most) enough =
-          let deeper = parent-lower ms (sound c ms l new) n p up in
-          let above = within-root most p (above-there c ms l new n p up) (omega (arith, deeper, enough)) in
-          (suc above.0, ap (option_and_then (upwards ms above.0)) up ∙ above.1)
+      by : (o : Option ℕ) → parent_at ms n ≡ o → IsWithin ms 1 n
+      by None none = (0, ap Some (root-alone c.names ms (doc c ms l new) new.beside.over.1.stands n is none))
+      by (Some p) up = let deeper = parent-lower ms (sound c ms l new) n p up in absurd (omega (arith, deeper, few))
+  within-root (suc levels) n is few =
+      by (parent_at ms n) refl (λ p up. within-root levels p (above-there c ms l new n p up) (let deeper = parent-lower ms (sound c ms l new) n p up in omega (arith, deeper, few)))
+    where
+      by : (o : Option ℕ) → parent_at ms n ≡ o → ((p : ℕ) → parent_at ms n ≡ Some p → IsWithin ms 1 p) → IsWithin ms 1 n
+      by None none on = (0, ap Some (root-alone c.names ms (doc c ms l new) new.beside.over.1.stands n is none))
+      by (Some p) up on = let above = on p up in (suc above.0, ap (option_and_then (upwards ms above.0)) up ∙ above.1)
 
   module _ (mid : TargetKeys) (forgets : Forgets keys mid (gone_of turn)) where
     no-targets-mid : (n : ℕ) → targets_of mid.counted n ≡ []

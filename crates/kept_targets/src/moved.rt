@@ -1,6 +1,6 @@
 //! The elements that are new, have another name, or are governed otherwise than before.
 
-ghost use Rattle.std.specs.Prelude.{◌≡◌, ℕ, Option, Some, true, IfSome, OnOk};
+ghost use Rattle.std.specs.Prelude.{◌≡◌, ℕ, Option, Some, None, true, slice_get, MatchOption, OnOk};
 ghost use Rattle.xs_names.specs.Names.{NameTable};
 ghost use Rattle.tree_rows.specs.Forest.{Document};
 ghost use Rattle.doc_nodes.specs.Nodes.{Has, element_children, is_element_at};
@@ -60,6 +60,19 @@ fn sign_at(records: &KeptRecords, node: u32) -> Option<ElementSign>
     }
 }
 
+// Whether an element has the same name, and the same identity constraints or none, as before; where it is new it has not.
+fn stays_steady(by: &Kept<'_>, keys: &TargetKeys, node: u32) -> bool
+    ensures { result ≡ true → law.StaysSteady by.now.set.now.parts by.now.state.now.records.slots (at keys.now.signs) node }
+{
+    let Some(now) = by.state.records.get(node) else {
+        return false;
+    };
+    match keys.signs.get(node) {
+        None => false,
+        Some(was) => is_steady(&by.set.parts, was, &sign_of(now)),
+    }
+}
+
 /// Puts an element and all elements below it behind others.
 ///
 /// # Errors
@@ -83,6 +96,7 @@ pub fn add_below(doc: &DocTree, node: u32, numbers: &mut Vec<u32>) -> Result<(),
 
 /// Puts an element behind others where its sign is another than before, with those below it of which this is so; where it is new, or not
 /// steady, with all below it.
+#[cycle(moved)]
 pub(crate) fn add_moved(
     by: &Kept<'_>,
     keys: &TargetKeys,
@@ -99,16 +113,15 @@ pub(crate) fn add_moved(
     if was == now {
         return Ok(());
     }
-    match (was, now) {
-        (Some(was), Some(now)) if is_steady(&by.set.parts, &was, &now) => {
-            moved.push(node)?;
-            add_children(by, keys, node, moved)
-        }
-        _ => add_below(by.doc, node, moved),
+    if !stays_steady(by, keys, node) {
+        return add_below(by.doc, node, moved);
     }
+    moved.push(node)?;
+    add_children(by, keys, node, moved)
 }
 
 // The same of the child elements of an element.
+#[cycle(moved)]
 fn add_children(
     by: &Kept<'_>,
     keys: &TargetKeys,
@@ -148,6 +161,22 @@ fn add_other(
     add_moved(by, keys, node, moved)
 }
 
+// The child element of this number among those of an element whose names are ambivalent, from 0; `None` past the last.
+fn marked_child(by: &Kept<'_>, parent: u32, number: u32) -> Option<u32>
+    requires whole { IsWhole by.now.set.now by.now.doc.now by.now.state.now }
+    requires element { is_element_at by.now.doc.now parent ≡ true }
+    ensures { MatchOption result (slice_get (law.marks by.now.set.now by.now.doc.now by.now.state.now parent) number ≡ None)
+        (λ child. (place : ℕ) × (slice_get (law.marks by.now.set.now by.now.doc.now by.now.state.now parent) number ≡ Some place) × (slice_get (element_children by.now.doc.now parent) place ≡ Some child)) }
+{
+    match by.state.children(parent).list {
+        None => None,
+        Some(list) => match by.state.lists.marked(list, number) {
+            None => None,
+            Some(place) => by.doc.element_at(parent, place),
+        },
+    }
+}
+
 /// The same of those child elements of an element whose names are ambivalent, but for one that was looked at.
 pub(crate) fn add_marked(
     by: &Kept<'_>,
@@ -161,14 +190,8 @@ pub(crate) fn add_marked(
     ensures looked { OnOk result ((c : ℕ) → law.IsMarked by.now.set.now by.now.doc.now by.now.state.now parent c → (but ≡ Some c → ⊥) → law.IsLookedAt by.now.set.now.parts by.now.doc.now by.now.state.now.records.slots (at keys.now.signs) moved.new.items c) }
     ensures adds { OnOk result (law.Adds by.now.doc.now moved.old.items moved.new.items (λ m. Has m (element_children by.now.doc.now parent))) }
 {
-    let Some(list) = by.state.children(parent).list else {
-        return Ok(());
-    };
     for number in 0..by.doc.child_count(parent) {
-        let Some(place) = by.state.lists.marked(list, number) else {
-            return Ok(());
-        };
-        let Some(child) = by.doc.element_at(parent, place) else {
+        let Some(child) = marked_child(by, parent, number) else {
             return Ok(());
         };
         add_other(by, keys, child, but, moved)?;
