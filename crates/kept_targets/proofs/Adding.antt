@@ -15,7 +15,7 @@ use Rattle.child_lists.proofs.from_kept_forgetting.Depths.{element-depth}
 use Rattle.child_lists.proofs.from_kept_forgetting.Placed.{child-place, has-at, parent-element}
 use Rattle.child_lists.specs.from_kept_records.Slots.{KeptSlots}
 use Rattle.kept_targets.specs.Moved.{Adds, IsLookedAt}
-use Rattle.kept_targets.specs.Moved.IsLookedAt as looked
+use Rattle.kept_targets.specs.Moved.{IsLookedAt as looked}
 use Rattle.kept_targets.specs.declared.keys.ElementSign.{ElementSign}
 use Rattle.kept_targets.proofs.Among.{has-either, has-left, has-right}
 use Rattle.kept_targets.proofs.Links.{child-up, parent-lower}

@@ -27,7 +27,7 @@ weight b = if b then 1 else 0
 -- without constraints there are no codes
 pub no-codes : (names : NameTable) (t : Tables) (identities : List IdentityPaths) (own : KeyElement) (below : KeyForest) → constraints_of t own ≡ [] → identity_codes names t identities own below ≡ []
 unfolding identity_codes
-no-codes names t identities own below none = ap (λ (ks : List ℕ). flat_map (λ (k : ℕ). codes_by names t identities k (slice_get t.constraints.parts k) own below) ks) none
+no-codes names t identities own below bare = ap (λ (ks : List ℕ). flat_map (λ (k : ℕ). codes_by names t identities k (slice_get t.constraints.parts k) own below) ks) bare
 
 -- an element comes at least once
 once : (n : ℕ) (f : Forest) → HasElement n f → 1 ≤ times n f

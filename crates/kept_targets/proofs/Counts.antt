@@ -22,7 +22,7 @@ use Rattle.child_lists.specs.from_kept_records.Slots.{KeptSlots, IsKept}
 use Rattle.compiled_schema.specs.declared.compiled.Compiled.{Compiled}
 use Rattle.kept_targets.specs.Kept.{IsTargetOf, sign_at, sign_of}
 use Rattle.kept_targets.specs.Counting.{Adopts, AreScopesAbove, Assigns, CanAdopt, Drops, Finds, Forgets, IsAtOrAbove, IsCounting, IsNoTarget}
-use Rattle.kept_targets.specs.Counting.IsAtOrAbove as upwards
+use Rattle.kept_targets.specs.Counting.{IsAtOrAbove as upward}
 use Rattle.kept_targets.specs.declared.keys.ElementSign.{ElementSign}
 use Rattle.kept_targets.specs.declared.keys.TargetKeys.{TargetKeys}
 use Rattle.kept_targets.proofs.Among.{has-or-not, has-next, has-before, has-here, has-taken, has-get, is_left, from-left, to-left, is_right, from-right, to-right, from-other}
@@ -115,8 +115,8 @@ module _ (parents : ℕ → Option ℕ) (signs : ℕ → Option ElementSign) whe
 module _ (keys : TargetKeys) (gone : List ℕ) (whole : (n c : ℕ) → Has n gone → parent_of keys.counted c ≡ Some n → Has c gone) where
   -- one below another that is gone is gone
   from-scope : (n s : ℕ) → IsAtOrAbove keys n s → Has s gone → Has n gone
-  from-scope n s upwards.itself h = h
-  from-scope n s (upwards.above p q is up) h = from-scope n p is (whole q p h up)
+  from-scope n s upward.itself h = h
+  from-scope n s (upward.above p q is up) h = from-scope n p is (whole q p h up)
 
 module _ (old mid : TargetKeys) (gone : List ℕ) (whole : (n c : ℕ) → Has n gone → parent_of old.counted c ≡ Some n → Has c gone) (takes : Finds IsNoTarget old mid gone) where
   parent-same : (c : ℕ) → parent_of mid.counted c ≡ parent_of old.counted c

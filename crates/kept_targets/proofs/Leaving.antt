@@ -24,7 +24,7 @@ use Rattle.child_lists.specs.from_kept_state.KeptState.{KeptState}
 use Rattle.child_lists.proofs.from_kept_forgetting.Walks.{below-within, child-below, self-within}
 use Rattle.kept_targets.specs.Kept.{kin_of, sign_at}
 use Rattle.kept_targets.specs.Moved.{IsLookedAt, IsMarked, IsSteady, constraints_by}
-use Rattle.kept_targets.specs.Moved.IsLookedAt as looked
+use Rattle.kept_targets.specs.Moved.{IsLookedAt as looked}
 use Rattle.kept_targets.specs.Turned.{Stays, Turns, own_of, listed_of, list_of, lowest_of}
 use Rattle.kept_targets.specs.Whole.{IsWhole}
 use Rattle.kept_targets.specs.declared.keys.ElementSign.{ElementSign}
@@ -120,9 +120,9 @@ module _ (c : Compiled) (ns ms : Nodes) (k l : KeptState) (turn : Turn) (old : I
 
   free-own : (n : ℕ) → IsFree n → seen_element (entry_at l.records.slots n) ≡ seen_element (entry_at k.records.slots n)
   free-own n free =
-      let as = free-before n free in
+      let same = free-before n free in
       let off = not-own n free in
-      (turned-seen (set_of c) (one-outcome c.parts) old.beside.over.1.stands.table old.beside.over.1.usable.named.attributes (models_of c) ns ms k.records.slots l.records.slots k.lists l.lists k.root_ids l.root_ids n as.pair
+      (turned-seen (set_of c) (one-outcome c.parts) old.beside.over.1.stands.table old.beside.over.1.usable.named.attributes (models_of c) ns ms k.records.slots l.records.slots k.lists l.lists k.root_ids l.root_ids n same.pair
       (fit-of c ns k old n (made-of c ns k old n free.stays.before)) (fit-of c ms l new n (made-of c ms l new n free.stays.after)) (head-stays c ns ms k l turn old new turned n free.stays off)
       (texts-stay c ns ms k l turn old new turned n free.stays off) (turned.texts n free.stays off) (children-stay c ns ms k l turn old new turned n free.stays (not-list n free))
       (names-stay c ns ms k l turn old new turned n free.stays (not-list n free))).sight
@@ -154,8 +154,8 @@ module _ (c : Compiled) (ns ms : Nodes) (k l : KeptState) (turn : Turn) (old : I
     where
       by : (m : ℕ) → Stays ns ms m → IsWithin ms m n → IsLookedAt c.parts ms l.records.slots was moved m → IsSame m
       by m stays above (looked.same x e) =
-          let as = as-before c ns ms k l turn old new turned m stays.after (sym (signs m) ∙ e) in
-          record { stays = stays; name = as.name; constraints = ap (λ (g : Governing). constraints_by c.parts g.declaration) as.pair }
+          let same = as-before c ns ms k l turn old new turned m stays.after (sym (signs m) ∙ e) in
+          record { stays = stays; name = same.name; constraints = ap (λ (g : Governing). constraints_by c.parts g.declaration) same.pair }
       by m stays above (looked.steady x a b has before after steady below) =
           let then = same_Some (record { name = name_at ns m; pair = pair_at k.records.slots m }) a (sym (sign-is c ns k old m (made-of c ns k old m stays.before)) ∙ sym (signs m) ∙ before) in
           let now = same_Some (record { name = name_at ms m; pair = pair_at l.records.slots m }) b (sym (sign-is c ms l new m (made-of c ms l new m stays.after)) ∙ after) in

@@ -44,7 +44,7 @@ use Rattle.kept_targets.proofs.Links.{child-up, parent-lower}
 use Rattle.kept_targets.specs.declared.keys.ElementSign.{ElementSign}
 use Rattle.kept_targets.specs.declared.turn.Turn.{Turn}
 use Rattle.kept_targets.specs.declared.turn.Turn.TheVariants as turns
-use Rattle.kept_targets.specs.Moved.IsLookedAt as looked
+use Rattle.kept_targets.specs.Moved.{IsLookedAt as looked}
 
 -- ---- one document
 
@@ -191,7 +191,7 @@ module _ (c : Compiled) (ns ms : Nodes) (k l : KeptState) (turn : Turn) (old : I
 
   -- ---- governing
 
-  module _ (q n : ℕ) (as : IsAsBefore q) (up : parent_at ms n ≡ Some q) (stays : Stays ns ms n) (off : own_of turn ≢ Some n) where
+  module _ (q n : ℕ) (same : IsAsBefore q) (up : parent_at ms n ≡ Some q) (stays : Stays ns ms n) (off : own_of turn ≢ Some n) where
     abbrev place : (place : ℕ) × (slice_get (element_children ms q) place ≡ Some n)
     place = child-place ms (sound c ms l new) n q up stays.after
 
@@ -202,10 +202,10 @@ module _ (c : Compiled) (ns ms : Nodes) (k l : KeptState) (turn : Turn) (old : I
     by-term : term_in (model_at s (models_of c) ms l.records.slots q) (symbols_at s (models_of c) ms l.records.slots q) place.0 ≡ term_in (model_at s (models_of c) ns k.records.slots q) (symbols_at s (models_of c) ns k.records.slots q) was.0
         → pair_at l.records.slots n ≡ pair_at k.records.slots n
     by-term term =
-        let now = ((fit-of c ms l new q (made-of c ms l new q as.stays.after)).gathered.given place.0 n place.1).pair_is in
-        let then = ((fit-of c ns k old q (made-of c ns k old q as.stays.before)).gathered.given was.0 n was.1).pair_is in
+        let now = ((fit-of c ms l new q (made-of c ms l new q same.stays.after)).gathered.given place.0 n place.1).pair_is in
+        let then = ((fit-of c ns k old q (made-of c ns k old q same.stays.before)).gathered.given was.0 n was.1).pair_is in
         let head = head-stays n stays off in
-        now ∙ (λ i. govern_child s.names s.parts (as.pair i).mode (term i) (head i).name (head i).xsi (head i).scope) ∙ sym then
+        now ∙ (λ i. govern_child s.names s.parts (same.pair i).mode (term i) (head i).name (head i).xsi (head i).scope) ∙ sym then
 
     get-name : (xs : List ℕ) (i : ℕ) (f : ℕ → ℕ) → slice_get xs i ≡ Some n → slice_get (map f xs) i ≡ Some (f n)
     get-name xs i f e = get-map f xs i n e
@@ -218,16 +218,16 @@ module _ (c : Compiled) (ns ms : Nodes) (k l : KeptState) (turn : Turn) (old : I
         (terms-same s.names (model_at s (models_of c) ms l.records.slots q) (map (name_at ms) (element_children ms q)) (map (name_at ns) (element_children ns q)) place.0 was.0 (name_at ms n)
         (get-name (element_children ms q) place.0 (name_at ms) place.1)
         (get-name (element_children ns q) was.0 (name_at ns) was.1 ∙ ap Some (sym name)) lacks
-        ∙ ap (λ (g : Governing). term_in (models_of c g.of) (child_symbols s.names (models_of c g.of) (map (name_at ns) (element_children ns q))) was.0) as.pair)
+        ∙ ap (λ (g : Governing). term_in (models_of c g.of) (child_symbols s.names (models_of c g.of) (map (name_at ns) (element_children ns q))) was.0) same.pair)
 
     -- where the child elements are those that were there, it has its place
     module _ (other : list_of ms turn ≢ Some q) where
       in-place : pair_at l.records.slots n ≡ pair_at k.records.slots n
       in-place =
           let same-place : place.0 ≡ was.0 =
-          one-place (element_children ns q) place.0 was.0 n (children-differ ns (sound c ns k old) q) (ap (λ xs. slice_get xs place.0) (sym (children-stay q as.stays other)) ∙ place.1) was.1 in
-          let names = names-stay q as.stays other in
-          by-term (λ i. term_in (models_of c (as.pair i).of) (child_symbols s.names (models_of c (as.pair i).of) (names i)) (same-place i))
+          one-place (element_children ns q) place.0 was.0 n (children-differ ns (sound c ns k old) q) (ap (λ xs. slice_get xs place.0) (sym (children-stay q same.stays other)) ∙ place.1) was.1 in
+          let names = names-stay q same.stays other in
+          by-term (λ i. term_in (models_of c (same.pair i).of) (child_symbols s.names (models_of c (same.pair i).of) (names i)) (same-place i))
 
   -- ---- all elements are looked at
 
@@ -255,16 +255,16 @@ module _ (c : Compiled) (ns ms : Nodes) (k l : KeptState) (turn : Turn) (old : I
       there = let at = child-place ms (sound c ms l new) n q up is in has-at (element_children ms q) at.0 n at.1
 
       below-same : IsAsBefore q → own_of turn ≢ Some n → IsLooked n
-      below-same as off =
-          let stays = child-stays q n as.stays up is off in
+      below-same same off =
+          let stays = child-stays q n same.stays up is off in
           elim (is-it (list_of ms turn) q) [
             | inl e ↦
-                let at = place q n as up stays off in
+                let at = place q n same up stays off in
                 elim (has-or-lacks at.0 (marked_places (model_at s (models_of c) ms l.records.slots q) (symbols_at s (models_of c) ms l.records.slots q))) [
                   | inl has ↦ marked q n e off (record { place = at.0; there = at.1; marked = has })
-                  | inr lacks ↦ governed n stays off (unmarked q n as up stays off lacks)
+                  | inr lacks ↦ governed n stays off (unmarked q n same up stays off lacks)
                 ]
-            | inr other ↦ governed n stays off (in-place q n as up stays off other)
+            | inr other ↦ governed n stays off (in-place q n same up stays off other)
           ]
 
       child-looked : IsLooked q → IsLooked n

@@ -20,7 +20,7 @@ use Rattle.child_lists.specs.from_kept_state.KeptState.{KeptState}
 use Rattle.kept_targets.specs.Counting.{Adopts, AreScopesAbove, CanAdopt, Finds, Forgets, IsCounting}
 use Rattle.kept_targets.specs.Kept.{AreTargets, IsTargetOf, sign_at}
 use Rattle.kept_targets.specs.Moved.{IsLookedAt}
-use Rattle.kept_targets.specs.Moved.IsLookedAt as looked
+use Rattle.kept_targets.specs.Moved.{IsLookedAt as looked}
 use Rattle.kept_targets.specs.Touched.{IsTouching}
 use Rattle.kept_targets.specs.Turned.{Opens, gone_of, lowest_of, own_of}
 use Rattle.kept_targets.specs.Whole.{IsWhole}

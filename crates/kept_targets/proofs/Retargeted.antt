@@ -31,10 +31,10 @@ use Rattle.child_lists.specs.from_kept_records.Found.{IsOver, AreSettled, SaysFo
 use Rattle.child_lists.proofs.from_kept_records.Made.{elements-made, made-elements}
 use Rattle.child_lists.specs.from_kept_state.KeptState.{KeptState}
 use Rattle.kept_targets.specs.Counting.{Adopts, AreScopesAbove, CanAdopt, Finds, Forgets, IsAtOrAbove, IsCounting}
-use Rattle.kept_targets.specs.Counting.IsAtOrAbove as upwards
+use Rattle.kept_targets.specs.Counting.{IsAtOrAbove as upward}
 use Rattle.kept_targets.specs.Kept.{AreTargets, IsTargetOf, kin_of, sign_at, sign_of}
 use Rattle.kept_targets.specs.Moved.{IsLookedAt, IsMarked}
-use Rattle.kept_targets.specs.Moved.IsLookedAt as looked
+use Rattle.kept_targets.specs.Moved.{IsLookedAt as looked}
 use Rattle.kept_targets.specs.Touched.{IsTouching, scopes_at}
 use Rattle.kept_targets.specs.Turned.{Stays, Turns, gone_of, list_of, lowest_of, own_of}
 use Rattle.kept_targets.specs.Whole.{IsWhole}
@@ -96,7 +96,7 @@ module _ (c : Compiled) (ns : Nodes) (k : KeptState) (old : IsWhole c ns k) (key
   IsUp n p = IsMade k.records.slots p × IsAtOrAbove keys n p
 
   up-goes : (n p q : ℕ) → IsUp n p → parent_at ns p ≡ Some q → IsUp n q
-  up-goes n p q up e = (made-of c ns k old q (above-there c ns k old p q e), upwards.above p q up.1 (are.parents p up.0 ∙ e))
+  up-goes n p q up e = (made-of c ns k old q (above-there c ns k old p q e), upward.above p q up.1 (are.parents p up.0 ∙ e))
 
   pub scopes-above : AreScopesAbove keys
   scopes-above n a h =
@@ -108,14 +108,14 @@ module _ (c : Compiled) (ns : Nodes) (k : KeptState) (old : IsWhole c ns k) (key
             let own = seen_element (entry_at k.records.slots n) in
             let found = subst (Has a) (are.targets n made above.0 below.0 above.1 below.1) h in
             (up-scopes c.names c.parts c.identities.items (kin_of ns k.records.slots) (IsUp n) (λ p up. (fit-of c ns k old p up.0).gathered.number_is) (up-goes n) own below.0 a (Some n) (own ∷ above.0) [] (refl, above.1)
-            (λ p e. subst (IsUp n) (same_Some n p e) (made, upwards.itself)) found).1
+            (λ p e. subst (IsUp n) (same_Some n p e) (made, upward.itself)) found).1
         | inr out ↦ absurd (no-targets a (targets_of keys.counted n) (are.none n out) h)
       ]
 
   -- what is at or above an element is an element
   pub above-made : (n s : ℕ) → IsMade k.records.slots n → IsAtOrAbove keys n s → is_element_at ns s ≡ true
-  above-made n s made upwards.itself = element-of c ns k old n made
-  above-made n s made (upwards.above p q is up) = let there = parent-made p q up in above-there c ns k old p q there.1
+  above-made n s made upward.itself = element-of c ns k old n made
+  above-made n s made (upward.above p q is up) = let there = parent-made p q up in above-there c ns k old p q there.1
 
   pub scope-there : (n : ℕ) (a : Targeting) → Has a (targets_of keys.counted n) → is_element_at ns a.scope ≡ true
   scope-there n a h =

@@ -2,13 +2,17 @@
 use Rattle.std.proofs.Common.{◌≡◌, ◌⊎◌, ◌+◌, ◌<◌, ℕ, zero, suc, true, List, [], ◌∷◌, ◌++◌, map, Option, None, Some, inl, inr, refl, sym, ap, ◌∙◌, subst, append_assoc, append-nil, arith}
 use Rattle.std.specs.Prelude.{unwrap_or}
 use Rattle.std.specs.Option.{option_and_then}
-use Rattle.std.proofs.lemmas.List.{map_push}
 use Rattle.std.proofs.lemmas.Option.{none-some, same_Some}
-use Rattle.identity_constraints.specs.Seen.{KeyElement}
+use Rattle.identity_constraints.specs.Seen.{KeyElement, KeyForest}
 use Rattle.identity_assessment.specs.Identity.{seen_element}
-use Rattle.path_walk.specs.Sight.{seen}
-use Rattle.path_walk.specs.declared.sight.KeySight.{KeySight}
-use Rattle.scope_targets.specs.Kin.{AreAbove}
+use Rattle.identity_constraints.specs.Targets.{constraints_of}
+use Rattle.identity_paths.specs.declared.paths.IdentityPaths.{IdentityPaths}
+use Rattle.path_walk.specs.inside.Walk.{reached}
+use Rattle.scope_targets.specs.Kin.{Kin, AreAbove}
+use Rattle.scope_targets.specs.Targetings.{Targeting, targetings_for, targetings_up}
+use Rattle.xs_components.specs.Tables.{Tables}
+use Rattle.xs_names.specs.Names.{NameTable}
+use Rattle.kept_targets.proofs.Around.{above-one}
 use Rattle.tree_assess.specs.Entries.{entry_of}
 use Rattle.counted_keys.specs.Kept.{targets_of}
 use Rattle.compiled_schema.specs.declared.compiled.Compiled.{Compiled}
@@ -17,7 +21,6 @@ use Rattle.doc_changes.specs.Held.{parent_at}
 use Rattle.child_lists.specs.from_kept_forgetting.Below.{IsWithin, upwards}
 use Rattle.child_lists.specs.from_kept_records.KeptElement.{KeptElement}
 use Rattle.child_lists.specs.from_kept_records.Slots.{KeptSlots, IsKept, blank, entry_at}
-use Rattle.kept_targets.specs.Kept.{kin_of}
 use Rattle.kept_targets.specs.Touched.{IsNoted, IsTouching, scopes_at}
 use Rattle.kept_targets.specs.declared.above.Touched.{Touched}
 use Rattle.kept_targets.specs.declared.keys.TargetKeys.{TargetKeys}
@@ -37,6 +40,9 @@ level-less ns sound n next e = by (parent_at ns n) refl
     by : (o : Option ℕ) → parent_at ns n ≡ o → level ns o < level ns next
     by None none = omega (arith, now)
     by (Some p) up = let deeper = parent-lower ns sound n p up in omega (arith, now, deeper)
+
+pub level-at : (ns : Nodes) → IsSound ns → (n : ℕ) (next : Option ℕ) → next ≡ Some n → (parent : Option ℕ) → parent ≡ parent_at ns n → level ns parent < level ns next
+level-at ns sound n next e parent is = subst (λ (o : Option ℕ). level ns o < level ns next) (sym is) (level-less ns sound n next e)
 
 -- ---- what was noted
 
@@ -158,20 +164,25 @@ module _ (c : Compiled) (ns : Nodes) (ks : KeptSlots) (keys : TargetKeys) (n : �
 pub kept-seen : (ks : KeptSlots) (n : ℕ) (k : KeptElement) → IsKept ks n k → seen_element (entry_of k.found) ≡ seen_element (entry_at ks n)
 kept-seen ks n k is = ap (λ (o : Option KeptElement). seen_element (entry_of (unwrap_or o blank).found)) (sym is)
 
-module _ (ns : Nodes) (ks : KeptSlots) (n own : ℕ) (next : Option ℕ) (is : next ≡ Some own) (sights more : List KeySight) (sight : KeySight) (pushed : more ≡ sights ++ sight ∷ []) (here : seen sight ≡ seen_element (entry_at ks own))
-    (above : (rest : List KeyElement) → AreAbove (kin_of ns ks) next rest → AreAbove (kin_of ns ks) (Some n) (map seen sights ++ rest)) where
-  longer : (rest : List KeyElement) → map seen sights ++ (seen sight ∷ rest) ≡ map seen more ++ rest
-  longer rest = sym (ap (λ (xs : List KeySight). map seen xs ++ rest) pushed ∙ ap (λ (xs : List KeyElement). xs ++ rest) (map_push seen sights sight) ∙ append_assoc (map seen sights) (seen sight ∷ []) rest)
+-- ---- the targets that an element is, one scope after another
 
-  pub above-next : (rest : List KeyElement) → AreAbove (kin_of ns ks) (parent_at ns own) rest → AreAbove (kin_of ns ks) (Some n) (map seen more ++ rest)
-  above-next rest are =
-      subst (AreAbove (kin_of ns ks) (Some n)) (longer rest)
-      (above (seen sight ∷ rest) (subst (λ (o : Option ℕ). AreAbove (kin_of ns ks) o (seen sight ∷ rest)) (sym is) (here, are)))
+module _ (names : NameTable) (t : Tables) (identities : List IdentityPaths) (v : Kin) (own : KeyElement) (below : KeyForest) (all : List KeyElement) where
+  -- those that were found, with those of the scopes that are left
+  abbrev pub IsFoundUpTo : Option ℕ → List ℕ → List Targeting → Type 0
+  IsFoundUpTo next way found = (rest : List KeyElement) → AreAbove v next rest → found ++ targetings_up names t identities way own below rest ≡ targetings_up names t identities [] own below all
 
-pub above-end : (ns : Nodes) (ks : KeptSlots) (n : ℕ) (next : Option ℕ) (sights : List KeySight) → next ≡ None
-    → ((rest : List KeyElement) → AreAbove (kin_of ns ks) next rest → AreAbove (kin_of ns ks) (Some n) (map seen sights ++ rest)) → AreAbove (kin_of ns ks) (Some n) (map seen sights)
-above-end ns ks n next sights e above =
-    subst (AreAbove (kin_of ns ks) (Some n)) (append-nil (map seen sights)) (above [] (subst (λ (o : Option ℕ). AreAbove (kin_of ns ks) o []) (sym e) tt))
+  pub found-next : (next : Option ℕ) (p : ℕ) → next ≡ Some p → (way longer : List ℕ) (found more : List Targeting) (s : KeyElement) → s ≡ v.seen p → longer ≡ s.name ∷ way
+      → more ≡ found ++ targetings_for names t identities s.number (constraints_of t s) (reached way own below) → IsFoundUpTo next way found → IsFoundUpTo (v.parent p) longer more
+  found-next next p is way longer found more s here longer_is more_is so rest are =
+      let first = targetings_for names t identities s.number (constraints_of t s) (reached way own below) in
+      (λ i. more_is i ++ targetings_up names t identities (longer_is i) own below rest)
+      ∙ append_assoc found first (targetings_up names t identities (s.name ∷ way) own below rest)
+      ∙ so (s ∷ rest) (subst (λ (o : Option ℕ). AreAbove v o (s ∷ rest)) (sym is) (here, are))
 
-pub above-first : (ns : Nodes) (ks : KeptSlots) (n : ℕ) (sights : List KeySight) → sights ≡ [] → (rest : List KeyElement) → AreAbove (kin_of ns ks) (Some n) rest → AreAbove (kin_of ns ks) (Some n) (map seen sights ++ rest)
-above-first ns ks n sights e rest are = subst (λ (xs : List KeySight). AreAbove (kin_of ns ks) (Some n) (map seen xs ++ rest)) (sym e) are
+  pub found-end : (next : Option ℕ) (way : List ℕ) (found : List Targeting) → next ≡ None → IsFoundUpTo next way found → found ≡ targetings_up names t identities [] own below all
+  found-end next way found e so = sym (append-nil found) ∙ so [] (subst (λ (o : Option ℕ). AreAbove v o []) (sym e) tt)
+
+  pub found-start : (n : ℕ) (way : List ℕ) (found : List Targeting) → way ≡ [] → found ≡ [] → AreAbove v (Some n) all → IsFoundUpTo (Some n) way found
+  found-start n way found no_way no_found are rest is =
+      let same = above-one v (Some n) rest all is are in
+      (λ i. no_found i ++ targetings_up names t identities (no_way i) own below (same i))

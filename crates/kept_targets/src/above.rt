@@ -21,8 +21,8 @@ ghost use Rattle.kept_targets.specs.Whole.{IsWhole};
 use crate::keys::TargetKeys;
 use crate::moved::Kept;
 use crate::siblings::{KeptSiblings, sight_of};
-use path_walk::{KeySet, KeySight, constraints_of};
-use scope_targets::{ElementTargeting, targetings_of};
+use path_walk::{KeySet, constraints_of};
+use scope_targets::{ElementTargeting, add_scope};
 use std::alloc::AllocError;
 
 /// Elements that are to be looked at again: as targets, and as those whose constraints have targets.
@@ -87,21 +87,6 @@ pub(crate) fn add_touching(
     Ok(())
 }
 
-// What identity constraints see of an element and of those above it, the nearest first.
-fn scopes_of<'a>(by: &Kept<'a>, node: u32) -> Result<Vec<KeySight<'a>>, AllocError>
-    requires whole { IsWhole by.now.set.now by.now.doc.now by.now.state.now }
-    requires element { is_element_at by.now.doc.now node ≡ true }
-    ensures { IfOk result (λ scopes. AreAbove (kin_of by.now.doc.now by.now.state.now.records.slots) (Some node) (map seen scopes.items)) }
-{
-    let mut scopes = Vec::new(by.state.alloc);
-    let mut next = Some(node);
-    'up: while let Some(own) = next {
-        scopes.push(sight_of(by.state.at(own)))?;
-        next = by.doc.parent(own);
-    }
-    Ok(scopes)
-}
-
 /// What identity constraints are evaluated by.
 pub(crate) fn key_set<'a>(by: &Kept<'a>) -> KeySet<'a>
     ensures names { result.names.now ≡ by.now.set.now.names }
@@ -133,8 +118,15 @@ pub(crate) fn targetings_at(
         → AreAbove (kin_of by.now.doc.now by.now.state.now.records.slots) (parent_at by.now.doc.now node) above → AreSeen (kin_of by.now.doc.now by.now.state.now.records.slots) (element_children by.now.doc.now node) below
         → map targeting_of found.items ≡ law.targetings_of by.now.set.now.names by.now.set.now.parts by.now.set.now.identities.items above (seen_element (entry_at by.now.state.now.records.slots node)) below) }
 {
-    let scopes = scopes_of(by, node)?;
+    let set = key_set(by);
     let target = KeptSiblings::from(by.doc, &by.state.records, node);
-    let found = targetings_of(&key_set(by), target, scopes.as_slice())?;
+    let mut found = Vec::new(by.state.alloc);
+    let mut way = Vec::new(by.state.alloc);
+    let mut next = Some(node);
+    'up: while let Some(own) = next {
+        let scope = sight_of(by.state.at(own));
+        add_scope(&set, target, &scope, &mut way, &mut found)?;
+        next = by.doc.parent(own);
+    }
     Ok(found)
 }

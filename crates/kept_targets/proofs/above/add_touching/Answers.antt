@@ -1,6 +1,6 @@
 use Rattle.std.proofs.Common.{◌≡◌, Some, sym, subst}
 use Rattle.kept_targets.proofs.Looking.{above-there, made-of, sound}
-use Rattle.kept_targets.proofs.Touching.{IsTouchingBut, level-less, touching-end, touching-next, touching-start}
+use Rattle.kept_targets.proofs.Touching.{IsTouchingBut, level-at, touching-end, touching-next, touching-start}
 use Rattle.kept_targets.proofs.above.add_touching.Goals as goal
 
 pub up-init : goal.up-init
@@ -16,7 +16,7 @@ note_scope-requires c =
 pub up-smaller : goal.up-smaller
 up-smaller c =
     let by = c.args.by.now in
-    subst (λ o. _) (sym c.parent-next.ensures.parent) (level-less by.doc.now (sound by.set.now by.doc.now by.state.now c.requires.whole) c.in-Some.own c.up.next c.in-Some.is)
+    level-at by.doc.now (sound by.set.now by.doc.now by.state.now c.requires.whole) c.in-Some.own c.up.next c.in-Some.is c.parent-next.result c.parent-next.ensures.parent
 
 pub up-preserved : goal.up-preserved
 up-preserved c =
