@@ -47,8 +47,8 @@ find_again-requires-clause-counting c = c.in_ok-adopt.ensures.counting
 pub find_again-2-requires-clause-elements : goal.find_again-2-requires-clause-elements
 find_again-2-requires-clause-elements c = λ n has.
     let touched = c.in_ok-touched.ensures in
-    elim (touched.1.1.1.only_targets n (subst (Has n) c.as_slice-3.ensures.value has)) [
-      | inl old ↦ absurd (subst (Has n) touched.1.0 old)
+    elim (touched.3.only_targets n (subst (Has n) c.as_slice-3.ensures.value has)) [
+      | inl old ↦ absurd (subst (Has n) touched.1 old)
       | inr is ↦ is
     ]
 
@@ -64,11 +64,11 @@ returns-clause-targets c =
     let moved = c.in_ok-moved.ensures in
     let touched = c.in_ok-touched.ensures in
     let forgets = subst (Forgets keys c.forget.new.keys) c.gone.ensures c.in_ok-forget.ensures.forgets in
-    let touching = subst (λ (n : ℕ). IsTouching set doc ks keys n touched.0 c.in_ok-touched.touched) c.lowest.ensures touched.1.1.1 in
+    let touching = subst (λ (n : ℕ). IsTouching set doc ks keys n touched.0 c.in_ok-touched.touched) c.lowest.ensures touched.3 in
     let adopts = subst (Adopts doc ks c.forget.new.keys c.adopt.new.keys) c.as_slice.ensures.value c.in_ok-adopt.ensures.adopts in
     let first = subst (Finds (IsTargetOf set doc ks) c.adopt.new.keys c.find_again.new.keys) c.as_slice-2.ensures.value c.in_ok-find_again.ensures.finds in
     let second = subst (Finds (IsTargetOf set doc ks) c.find_again.new.keys c.find_again-2.new.keys) c.as_slice-3.ensures.value c.in_ok-find_again-2.ensures.finds in
-    targets-all set doc c.args.state.now c.requires.whole keys c.args.turn.now c.requires.before c.forget.new.keys forgets c.in_ok-moved.moved.items moved.own moved.marked moved.only touched.0 c.in_ok-touched.touched touched.1.0 touched.1.1.0 touching
+    targets-all set doc c.args.state.now c.requires.whole keys c.args.turn.now c.requires.before c.forget.new.keys forgets c.in_ok-moved.moved.items moved.own moved.marked moved.only touched.0 c.in_ok-touched.touched touched.1 touched.2 touching
     c.adopt.new.keys c.find_again.new.keys c.find_again-2.new.keys adopts first second c.in_ok-find_again-2.ensures.counting
 
 pub returns-clause-scopes : goal.returns-clause-scopes
@@ -80,9 +80,9 @@ returns-clause-scopes c =
     let moved = c.in_ok-moved.ensures in
     let touched = c.in_ok-touched.ensures in
     let forgets = subst (Forgets keys c.forget.new.keys) c.gone.ensures c.in_ok-forget.ensures.forgets in
-    let touching = subst (λ (n : ℕ). IsTouching set doc ks keys n touched.0 c.in_ok-touched.touched) c.lowest.ensures touched.1.1.1 in
+    let touching = subst (λ (n : ℕ). IsTouching set doc ks keys n touched.0 c.in_ok-touched.touched) c.lowest.ensures touched.3 in
     let all = c.in_ok-extend_from_slice.ensures.items ∙ ap (λ (xs : List ℕ). c.in_ok-touched.touched.scopes.items ++ xs) c.as_slice-4.ensures.value in
-    scopes-elements set doc c.args.state.now c.requires.whole keys c.args.turn.now c.requires.before c.forget.new.keys forgets c.in_ok-moved.moved.items moved.own moved.marked moved.only touched.0 c.in_ok-touched.touched touched.1.0 touched.1.1.0 touching
+    scopes-elements set doc c.args.state.now c.requires.whole keys c.args.turn.now c.requires.before c.forget.new.keys forgets c.in_ok-moved.moved.items moved.own moved.marked moved.only touched.0 c.in_ok-touched.touched touched.1 touched.2 touching
     c.extend_from_slice.new.self.items all
 
 pub returns-clause-rest : goal.returns-clause-rest
@@ -94,7 +94,7 @@ returns-clause-rest c =
     let moved = c.in_ok-moved.ensures in
     let touched = c.in_ok-touched.ensures in
     let forgets = subst (Forgets keys c.forget.new.keys) c.gone.ensures c.in_ok-forget.ensures.forgets in
-    let touching = subst (λ (n : ℕ). IsTouching set doc ks keys n touched.0 c.in_ok-touched.touched) c.lowest.ensures touched.1.1.1 in
+    let touching = subst (λ (n : ℕ). IsTouching set doc ks keys n touched.0 c.in_ok-touched.touched) c.lowest.ensures touched.3 in
     let all = c.in_ok-extend_from_slice.ensures.items ∙ ap (λ (xs : List ℕ). c.in_ok-touched.touched.scopes.items ++ xs) c.as_slice-4.ensures.value in
-    codes-rest set doc c.args.state.now c.requires.whole keys c.args.turn.now c.requires.before c.forget.new.keys forgets c.in_ok-moved.moved.items moved.own moved.marked moved.only touched.0 c.in_ok-touched.touched touched.1.0 touched.1.1.0 touching
+    codes-rest set doc c.args.state.now c.requires.whole keys c.args.turn.now c.requires.before c.forget.new.keys forgets c.in_ok-moved.moved.items moved.own moved.marked moved.only touched.0 c.in_ok-touched.touched touched.1 touched.2 touching
     c.extend_from_slice.new.self.items all
