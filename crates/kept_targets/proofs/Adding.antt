@@ -160,3 +160,10 @@ child-under ns n child numbers up own m e = inr (n, ap (parent_at ns) e ∙ up, 
 
 pub has-pushed-last : (n : ℕ) (xs : List ℕ) → Has n (xs ++ n ∷ [])
 has-pushed-last n xs = has-right n xs (n ∷ []) (inl refl)
+
+-- by more roots
+pub adds-wider : (ns : Nodes) (xs ys : List ℕ) (one two : ℕ → Type 0) → ((m : ℕ) → one m → two m) → Adds ns xs ys one → Adds ns xs ys two
+adds-wider ns xs ys one two wider adds = record {
+  still = adds.still;
+  only = λ m h. elim (adds.only m h) [ inl old ↦ inl old | inr new ↦ inr (new.0, elim new.1 [ inl root ↦ inl (wider m root) | inr up ↦ inr up ]) ];
+}

@@ -26,7 +26,7 @@ drop-past (x ∷ xs) zero e = absurd (none-some x (sym e))
 drop-past (x ∷ xs) (suc p) e = drop-past xs p e
 
 -- some of them are no more than all
-fewer : (p : ℕ → Bool) (xs : List ℕ) → length (filter p xs) ≤ length xs
+pub fewer : (p : ℕ → Bool) (xs : List ℕ) → length (filter p xs) ≤ length xs
 fewer p [] = omega arith
 fewer p (x ∷ xs) = by (p x) (fewer p xs)
   where

@@ -12,7 +12,7 @@ use Rattle.model_terms.specs.Symbols.{child_symbols}
 use Rattle.model_terms.specs.Terms.{is_ambivalent_symbol}
 use Rattle.model_lists.specs.Lists.{ListsView, IsListOf, ambivalent_places}
 use Rattle.model_lists.specs.declared.handle.ModelList.{ModelList}
-use Rattle.doc_nodes.specs.Nodes.{Nodes, Has, element_children}
+use Rattle.doc_nodes.specs.Nodes.{Nodes, Has, node, children_by, is_element_at, element_children}
 use Rattle.doc_documents.specs.Readers.{name_at}
 use Rattle.std.proofs.lemmas.List.{length-map}
 use Rattle.child_lists.specs.Family.{marked_places}
@@ -24,6 +24,7 @@ use Rattle.child_lists.specs.from_kept_state.KeptState.{KeptState}
 use Rattle.kept_targets.specs.Moved.{IsLookedAt, IsMarked, marks}
 use Rattle.kept_targets.specs.declared.keys.ElementSign.{ElementSign}
 use Rattle.kept_targets.proofs.Adding.{looked-more, place-before}
+use Rattle.kept_targets.proofs.Firsts.{fewer}
 
 -- ---- by the list
 
@@ -102,3 +103,10 @@ module _ (c : Compiled) (ns : Nodes) (k : KeptState) (was : ℕ → Option Eleme
   marked-all number moved ended done x marked off =
       let at = has-place (marks c ns k n) marked.place marked.marked in
       done at.0 marked.place x (place-before (marks c ns k n) number at.0 marked.place ended at.1) at.1 marked.there off
+
+-- there are no more of them than children
+pub few-marks : (c : Compiled) (ns : Nodes) (k : KeptState) (n : ℕ) → length (marks c ns k n) ≤ length (children_by (node ns n))
+few-marks c ns k n =
+    let few = few-all (set_of c).names ns (model_at (set_of c) (models_of c) ns k.records.slots n) n in
+    let passed = fewer (is_element_at ns) (children_by (node ns n)) in
+    omega (arith, few, passed)

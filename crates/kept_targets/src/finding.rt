@@ -164,7 +164,7 @@ fn find_again(by: &Kept<'_>, keys: &mut TargetKeys, nodes: &[u32]) -> Result<(),
 fn touched_by(by: &Kept<'_>, keys: &TargetKeys, lowest: u32) -> Result<Touched, AllocError>
     requires whole { IsWhole by.now.set.now by.now.doc.now by.now.state.now }
     requires element { is_element_at by.now.doc.now lowest ≡ true }
-    ensures { IfOk result (λ touched. (none : TouchedData) → none.targets.items ≡ [] → none.scopes.items ≡ [] → IsTouching by.now.set.now by.now.doc.now by.now.state.now.records.slots keys.now lowest none touched) }
+    ensures { IfOk result (λ touched. (none : TouchedData) × (none.targets.items ≡ []) × (none.scopes.items ≡ []) × IsTouching by.now.set.now by.now.doc.now by.now.state.now.records.slots keys.now lowest none touched) }
 {
     let mut touched = Touched {
         targets: Vec::new(by.state.alloc),

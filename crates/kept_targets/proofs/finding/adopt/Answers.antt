@@ -1,5 +1,7 @@
 use Rattle.std.proofs.Common.{◌≡◌, ℕ, Option, Some, get_or, sym, ap, ◌∙◌, subst, true}
-use Rattle.counted_keys.specs.Kept.{Reparents}
+use Rattle.counted_keys.specs.Kept.{AreKept, Reparents}
+use Rattle.counted_keys.specs.Linked.{links_by}
+use Rattle.counted_keys.specs.declared.keys.CountedKeys.{CountedKeys}
 use Rattle.doc_nodes.specs.Nodes.{is_element_at}
 use Rattle.doc_changes.specs.Held.{parent_at}
 use Rattle.kept_slots.specs.Slots.{at}
@@ -38,10 +40,10 @@ loop-node-preserved c =
     let signs = c.in_ok-set_sign.ensures.signs in
     record {
       counting =
-          subst (λ (s : _). _) (sym c.set_sign.ensures.counted)
+          subst (λ (s : CountedKeys). AreKept (links_by s.parents.items) s) (sym c.set_sign.ensures.counted)
           (adopt-kept ns ks first old moved i within inv.adopts c.requires.can mid moves (λ p e. c.in_ok-set_parent.ensures.lower p (parent ∙ e)) inv.counting);
       adopts = assigns-next (parent_at ns) (sign_at ks) first old c.set_sign.new.self moved i within inv.adopts
-          (subst (λ s. Reparents old.counted s own (parent_at ns own)) (sym c.set_sign.ensures.counted) moves)
+          (subst (λ (s : CountedKeys). Reparents old.counted s own (parent_at ns own)) (sym c.set_sign.ensures.counted) moves)
           (signs.here ∙ ap Some c.sign_of.ensures ∙ sign-kept ks own c.at.result.now c.at.ensures) signs.others;
     }
 

@@ -14,7 +14,7 @@ loop-node-init c =
     }
 
 pub take_targets-requires : goal.take_targets-requires
-take_targets-requires c = can-keep c.loop-node.keys.counted c.loop-node.invariant.counting
+take_targets-requires c = record { kept = can-keep c.loop-node.keys.counted c.loop-node.invariant.counting }
 
 pub targetings_at-found-requires-clause-element : goal.targetings_at-found-requires-clause-element
 targetings_at-found-requires-clause-element c = c.requires.elements (get_or c.args.nodes.now c.loop-node.node-index 0) (has-get c.args.nodes.now c.loop-node.node-index c.loop-node-test.true)

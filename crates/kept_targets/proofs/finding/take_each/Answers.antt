@@ -10,7 +10,7 @@ loop-node-init c = record {
 }
 
 pub take_targets-requires : goal.take_targets-requires
-take_targets-requires c = can-keep c.loop-node.keys.counted c.loop-node.invariant.counting
+take_targets-requires c = record { kept = can-keep c.loop-node.keys.counted c.loop-node.invariant.counting }
 
 pub loop-node-preserved : goal.loop-node-preserved
 loop-node-preserved c =
