@@ -20,8 +20,9 @@ use Rattle.doc_documents.proofs.Levels.{document_is}
 use Rattle.kept_inverses.specs.from_kept_state.KeptState.{KeptState}
 use Rattle.edit_session.specs.Costs.{edit_cost}
 use Rattle.edit_session.specs.Edited.{IsDone, IsLeft}
-use Rattle.edit_session.specs.Held.{document_in, found_by, IsPresent, state_by}
-use Rattle.edit_session.proofs.Standing.{found-now}
+use Rattle.edit_session.specs.Held.{document_in, found_by, Stands, IsPresent, state_by}
+use Rattle.edit_session.specs.Reopened.{IsReopened}
+use Rattle.edit_session.proofs.Standing.{stands-now, found-now}
 
 pub opened-so : (set : SchemaSet) (new : Compiled) (ns : Nodes) (k : KeptState) (d : Document) → StandsFor new.names ns d → IsPresent new ns k → set_of new ≡ with_names set d.forest → IsOpened set d (state_by new ns k 0 false)
 opened-so set new ns k d stands present named =
@@ -67,3 +68,23 @@ module _ (old new : Compiled) (ns ms : Nodes) (k l : KeptState) (edit : Edit) (e
 
   pub unspent-so : (first last : ℕ) → BreaksWithin edit_cost unedited edit (edited (document_in old ns) edit) first last → last ≡ first
   unspent-so first last within = subst (λ (r : Result Document EditError). BreaksWithin edit_cost unedited edit r first last) (left.refused.why refuses) within
+
+-- ---- one that was swapped to another set
+
+module _ (old : Compiled) (ns : Nodes) (k : KeptState) (stands : Stands old ns) (revision : ℕ) (closed : Bool) (set : SchemaSet) (new : Compiled) (ms : Nodes) (l : KeptState) where
+  -- the document stays
+  pub reopened-so : (next : ℕ) (shut : Bool) → closed ≡ false → next ≡ next_revision revision → shut ≡ false
+      → ((d : Document) → StandsFor old.names ns d → StandsFor new.names ms d) → ((d : Document) → StandsFor old.names ns d → set_of new ≡ with_names set d.forest) → IsPresent new ms l
+      → IsReopened (state_by old ns k revision closed) set (state_by new ms l next shut)
+  reopened-so next shut was is open_now stands_then named present =
+      let d = document_in old ns in
+      let same = document_is new.names ms d (stands_then d (stands-now old ns stands)) in
+      let set_is = named d (stands-now old ns stands) in
+      record {
+        open_before = was;
+        found_is = subst (λ (s : SchemaSet). IsFound s d (found_by new ms l)) set_is (subst (λ (x : Document). IsFound (set_of new) x (found_by new ms l)) same (found-now new ms l present));
+        new_is = λ i. record { set = set_is i; document = same i; found = found_by new ms l; revision = is i; closed = open_now i };
+      }
+
+  pub stands-reopened : ((d : Document) → StandsFor old.names ns d → StandsFor new.names ms d) → Stands new ms
+  stands-reopened stands_then = (stands.0, stands_then stands.0 stands.1)
