@@ -4,6 +4,7 @@ use Rattle.particle_models.specs.Parts.{trees_from}
 use Rattle.particle_models.specs.declared.part.Part.TheVariants.{Leaf, Group}
 use Rattle.particle_restrict.proofs.TotalLaws.{known-total, totals-length}
 use Rattle.particle_restrict.proofs.CellLaws.{part-read, members-read, group-cell}
+use Rattle.particle_restrict.proofs.RangeLaws.{leaf-restricts}
 use Rattle.particle_restrict.proofs.cells.over_leaf.Goals as goal
 
 pub total_at-total-requires : goal.total_at-total-requires
@@ -14,7 +15,12 @@ total_at-total-requires g c =
 pub returns-in-Leaf : goal.returns-in-Leaf
 returns-in-Leaf g c =
     rw (part-read c.args.sides.now.derived.now c.args.d c.index-sides-d.result c.requires.sides.ordered c.requires.there c.index-sides-d.is (Leaf c.in-Leaf.bounds c.in-Leaf.t) (c.index-sides-d.is ∙ c.in-Leaf.is))
-    (record { restricts = c.terms_restrict-restricts.ensures; within = rw c.any_number-any.ensures at c.terms_restrict-within.ensures })
+    (let within = rw c.any_number-any.ensures at c.terms_restrict-within.ensures in
+    record {
+      restricts = leaf-restricts (g.T.Derivation.derives c.args.sides.now.types.now) c.in-Leaf.bounds c.args.base _ _ c.terms_restrict-within.result c.range_ok-ok.result c.both-restricts.result
+          c.both-restricts.ensures within c.range_ok-ok.ensures;
+      within = within;
+    })
 
 pub returns-in-Group : goal.returns-in-Group
 returns-in-Group g c =
