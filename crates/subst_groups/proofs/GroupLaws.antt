@@ -11,7 +11,7 @@ use Rattle.xs_components.specs.Heads.{names_of}
 use Rattle.subst_groups.specs.Groups.{IsMember, IsGroup, AreGroups, by_place, name_of, part_name}
 use Rattle.subst_groups.specs.inside.Steps.{IsGroupSoFar, IsPutIf, IsInOrder, IsJoined}
 use Rattle.subst_groups.proofs.OrderLaws.{sorted-push, before-place}
-use Rattle.subst_groups.proofs.HeadLaws.{member-there}
+use Rattle.subst_groups.proofs.ChainLaws.{member-there}
 
 module _ (t : Tables) (head : ℕ) where
   module _ (done : List ℕ) (e : ℕ) (old new : List ℕ) (before : All (λ x. by_place t x e ≡ Less) done) (g : IsGroupSoFar t head done old) where

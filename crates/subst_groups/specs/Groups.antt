@@ -1,5 +1,6 @@
 -- Substitution groups (Structures 3.3.6).
-use Rattle.std.specs.Prelude.{◌≡◌, ◌≢◌, ◌↔◌, ◌⊎◌, ℕ, ◌<◌, Bool, true, false, List, ◌∷◌, Option, None, Some, Contains, map, length, slice_get}
+use Rattle.std.specs.Prelude.{◌≡◌, ◌≢◌, ◌↔◌, ◌⊎◌, ◌==◌, ℕ, ◌<◌, Bool, true, false, List, ◌∷◌, Option, None, Some, Contains, map, length, slice_get}
+use Rattle.std.specs.List.{list_any}
 use Rattle.std.specs.Option.{option_and_then}
 use Rattle.std.specs.List.Sorted.{IsStrictlySortedBy}
 use Rattle.std.specs.Ordering.{nat_cmp, ordering_then}
@@ -11,6 +12,9 @@ use Rattle.xs_components.specs.declared.common.TypeId.{TypeId}
 use Rattle.xs_components.specs.declared.common.TypeId.TheVariants.{AnyType, Builtin, Simple, Complex}
 use Rattle.xs_components.specs.declared.complex.ComplexType.{ComplexType}
 use Rattle.xs_components.specs.declared.element.ElementDecl.{ElementDecl}
+use Rattle.xs_components.specs.declared.particle.Particle.{Particle}
+use Rattle.xs_components.specs.declared.particle.Term.{Term}
+use Rattle.xs_components.specs.declared.particle.Term.TheVariants.{Element, Any, Group, Sequence, Choice, All as AllOf}
 use Rattle.xs_components.specs.Heads.{names_of}
 use Rattle.component_tables.specs.Types.{type_of}
 use Rattle.type_derivation.specs.Chains.{Derives}
@@ -85,8 +89,23 @@ pub record MayStand (t : Tables) (head element : ℕ) : Type 0 where
   pub blocks : AreBlocked t head element blocked
   pub derives : Derives t blocked (type_of t element) (type_of t head)
 
--- Another element is a member of the substitution group of a head: it has this head, and may stand for it.
+-- the term is this element
+abbrev pub is_element : Term → ℕ → Bool
+is_element (Element e) element = e == element
+is_element (Any wildcard) element = false
+is_element (Group group) element = false
+is_element (Sequence members) element = false
+is_element (Choice members) element = false
+is_element (AllOf members) element = false
+
+-- a content model names the element: it is the term of a particle
+abbrev pub is_named : Tables → ℕ → Bool
+is_named t element = list_any (λ part. is_element part.term element) t.particles.parts
+
+-- Another element is a member of the substitution group of a head that a content model names: it has this head, and may stand for
+-- it. Nobody asks for the members of other heads, of which there may be as many as pairs of elements.
 pub record IsMember (t : Tables) (head element : ℕ) : Type 0 where
+  pub named : is_named t head ≡ true
   pub has_head : HasHead t element head
   pub stands : MayStand t head element
 

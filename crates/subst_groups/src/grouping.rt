@@ -7,8 +7,10 @@ ghost use Rattle.component_references.specs.Ranked.{IsRanked};
 ghost use Rattle.component_tables.specs.Types.{AreDeclarationsOf};
 ghost use Rattle.type_derivation.specs.Within.{AreSimple};
 ghost use Rattle.subst_groups.specs.Groups as spec;
+ghost use Rattle.subst_groups.specs.inside.Named.{AreNearest};
 ghost use Rattle.subst_groups.specs.inside.Steps.{IsOffered, IsJoined, IsGroupSoFar};
 
+use crate::named::nearest_heads;
 use crate::order::in_order;
 use crate::standing::may_stand;
 use component_tables::Declarations;
@@ -73,6 +75,7 @@ fn join(
     alloc: Global,
     parts: &Components,
     declarations: &Declarations,
+    nearest: &[Option<ElementId>],
     element: ElementId,
     lists: &mut Vec<NameIdList>,
 ) -> Result<(), AllocError>
@@ -80,14 +83,15 @@ fn join(
     requires simple { AreSimple parts.now }
     requires types { (n : ℕ) (part : ElementDecl) → slice_get parts.now.elements.parts n ≡ Some part → IfSome part.of (IsType parts.now) }
     requires declarations { AreDeclarationsOf parts.now declarations.now }
+    requires nearest { AreNearest parts.now nearest.now }
     requires there { element < length parts.now.elements.parts }
     requires count { length lists.old.items ≡ length parts.now.elements.parts }
     ensures { OnOk result (IsJoined parts.now element lists.old.items lists.new.items) }
 {
-    let mut above = parts.element(element).head;
+    let mut above = nearest[element.number() as usize];
     'up: while let Some(head) = above {
         offer(alloc, parts, declarations, element, head, lists)?;
-        above = parts.element(head).head;
+        above = nearest[head.number() as usize];
     }
     Ok(())
 }
@@ -105,9 +109,17 @@ fn member_names(
     ensures { IfOk result (λ lists. spec.AreGroups parts.now lists.items) }
 {
     let order = in_order(alloc, parts)?;
+    let nearest = nearest_heads(alloc, parts)?;
     let mut lists = own_names(alloc, parts)?;
     for element in &order {
-        join(alloc, parts, declarations, *element, &mut lists)?;
+        join(
+            alloc,
+            parts,
+            declarations,
+            nearest.as_slice(),
+            *element,
+            &mut lists,
+        )?;
     }
     Ok(lists)
 }
@@ -123,8 +135,8 @@ fn as_members(alloc: Global, lists: Vec<NameIdList>) -> Result<Members, AllocErr
     Ok(members)
 }
 
-/// The substitution groups of all elements of a schema set (Structures 3.3.6): for each element the names of those that may
-/// stand for it, its own first, and then the others by document, item and number. `declarations` are those of the components.
+/// The substitution groups of all elements of a schema set (Structures 3.3.6): for each element its own name, and then, if a content
+/// model names it, the names of the others that may stand for it by document, item and number. `declarations` are those of the components.
 ///
 /// # Errors
 ///

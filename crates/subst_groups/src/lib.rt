@@ -3,6 +3,7 @@
 
 mod blocking;
 mod grouping;
+mod named;
 mod order;
 mod standing;
 

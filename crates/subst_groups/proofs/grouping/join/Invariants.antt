@@ -1,4 +1,5 @@
-use Rattle.subst_groups.proofs.HeadLaws.{IsJoinedBelow, left}
+use Rattle.subst_groups.proofs.ChainLaws.{left}
+use Rattle.subst_groups.proofs.HeadLaws.{IsJoinedBelow}
 use Rattle.subst_groups.proofs.grouping.join.Given as goal
 
 abbrev pub invariant-up : goal.invariant-up

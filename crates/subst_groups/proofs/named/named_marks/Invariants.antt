@@ -1,0 +1,11 @@
+use Rattle.std.proofs.Common.{◌≡◌, ℕ, ◌<◌, take, length}
+use Rattle.std.specs.Prelude.{false, slice_index_or}
+use Rattle.std.specs.List.{list_any}
+use Rattle.subst_groups.specs.Groups.{is_element}
+use Rattle.subst_groups.proofs.named.named_marks.Given as goal
+
+abbrev pub invariant-loop-particle : goal.invariant-loop-particle
+invariant-loop-particle l = record {
+  each : length l.marks.items ≡ length l.parts.elements.parts;
+  are : (n : ℕ) → n < length l.marks.items → slice_index_or l.marks.items n false ≡ list_any (λ part. is_element part.term n) (take l.particle-index l.parts.particles.parts);
+}
