@@ -1,9 +1,8 @@
 -- Child elements by a list of parents.
-use Rattle.std.proofs.Common.{◌≡◌, ◌≢◌, ◌⊎◌, ◌+◌, ◌≤◌, ◌<◌, ℕ, zero, suc, Bool, true, false, nat_eq, List, [], ◌∷◌, inl, inr, Option, None, Some, refl, sym, ap, subst, ◌∙◌, arith, true≢false}
-use Rattle.std.proofs.lemmas.Bool.{eqb-true}
+use Rattle.std.proofs.Common.{◌≡◌, ◌≢◌, ◌+◌, ◌<◌, ℕ, zero, suc, Bool, true, false, List, [], ◌∷◌, inl, inr, Option, None, Some, refl, sym, ap, subst, ◌∙◌, arith, true≢false}
+use Rattle.std.proofs.lemmas.Bool.{eq-eqb, eqb-true}
 use Rattle.identity_counts.specs.Counting.{Links, Has, Lacks, Distinct, IsLinked}
-use Rattle.identity_counts.proofs.Bearers.{eq-refl, same_or_other}
-use Rattle.identity_tables.specs.KeyTables.{Tables}
+use Rattle.identity_counts.proofs.Bearers.{same_or_other}
 use Rattle.identity_carry.specs.Tables.{KeyTuple, is_in_table, own, parent_in}
 use Rattle.key_records.specs.Counted.{Counted, Feature, with_keys}
 use Rattle.key_records.specs.References.{AreReferences, is_referred}
@@ -33,15 +32,15 @@ further n q qs p c b = let is = b.is in record { place = suc b.place; is = omega
 
 behind : (n : ℕ) (qs : List (Option ℕ)) (p c : ℕ) → Has c (children_from n qs p) → IsBehind n qs p c
 behind n [] p c h = absurd h
-behind n (q ∷ qs) p c h = by (is_parent q p) refl h
+behind n (q ∷ qs) p c h = by (is_parent q p) refl h (behind (n + 1) qs p c)
   where
     first : c ≡ n → c ≡ n + 0
     first e = omega (arith, e)
 
-    by : (b : Bool) → is_parent q p ≡ b → Has c (with_child b n (children_from (n + 1) qs p)) → IsBehind n (q ∷ qs) p c
-    by true e (inl same) = record { place = 0; is = first (sym same); parent = is-of q p e }
-    by true e (inr later) = further n q qs p c (behind (n + 1) qs p c later)
-    by false e later = further n q qs p c (behind (n + 1) qs p c later)
+    by : (b : Bool) → is_parent q p ≡ b → Has c (with_child b n (children_from (n + 1) qs p)) → (Has c (children_from (n + 1) qs p) → IsBehind (n + 1) qs p c) → IsBehind n (q ∷ qs) p c
+    by true e (inl same) on = record { place = 0; is = first (sym same); parent = is-of q p e }
+    by true e (inr later) on = further n q qs p c (on later)
+    by false e later on = further n q qs p c (on later)
 
 none-some : (p : ℕ) → None ≡ Some p → ⊥
 none-some p e = cc
@@ -58,7 +57,7 @@ there : (n : ℕ) (qs : List (Option ℕ)) (p k : ℕ) → parent_in qs k ≡ So
 there n [] p k e = absurd (none-some p e)
 there n (q ∷ qs) p zero e =
     let here : n + 0 ≡ n = omega arith in
-    subst (λ (m : ℕ). Has m (children_from n (q ∷ qs) p)) (sym here) (with-first (is_parent q p) n (children_from (n + 1) qs p) (ap (λ (o : Option ℕ). is_parent o p) e ∙ eq-refl p))
+    subst (λ (m : ℕ). Has m (children_from n (q ∷ qs) p)) (sym here) (with-first (is_parent q p) n (children_from (n + 1) qs p) (ap (λ (o : Option ℕ). is_parent o p) e ∙ eq-eqb p p refl))
 there n (q ∷ qs) p (suc k) e =
     let later : n + suc k ≡ (n + 1) + k = omega arith in
     subst (λ (m : ℕ). Has m (children_from n (q ∷ qs) p)) (sym later) (with-more (is_parent q p) n ((n + 1) + k) (children_from (n + 1) qs p) (there (n + 1) qs p k e))
@@ -69,14 +68,14 @@ lacks-those n (c ∷ cs) off = (off c (inl refl), lacks-those n cs (λ d h. off 
 
 apart-from : (n : ℕ) (qs : List (Option ℕ)) (p : ℕ) → Distinct (children_from n qs p)
 apart-from n [] p = tt
-apart-from n (q ∷ qs) p = by (is_parent q p)
+apart-from n (q ∷ qs) p = by (is_parent q p) (apart-from (n + 1) qs p)
   where
     off : (c : ℕ) → Has c (children_from (n + 1) qs p) → c ≢ n
     off c h same = let b = behind (n + 1) qs p c h in let is = b.is in omega (arith, is, same)
 
-    by : (b : Bool) → Distinct (with_child b n (children_from (n + 1) qs p))
-    by true = (lacks-those n (children_from (n + 1) qs p) off, apart-from (n + 1) qs p)
-    by false = apart-from (n + 1) qs p
+    by : (b : Bool) → Distinct (children_from (n + 1) qs p) → Distinct (with_child b n (children_from (n + 1) qs p))
+    by true later = (lacks-those n (children_from (n + 1) qs p) off, later)
+    by false later = later
 
 pub linked-by : (parents : List (Option ℕ)) → IsLinked (links_by parents)
 linked-by parents = record {
@@ -121,4 +120,24 @@ module _ (old new : CountedKeys) (n : ℕ) (parent : Option ℕ) (moves : Repare
         records-as (links_by new.parents.items) old.references new.references (counted_all old.targets) (counted_all new.targets) old.records new.records (sym moves.references) (ap counted_all (sym moves.targets)) (sym moves.records)
         (records-still (links_by old.parents.items) (links_by new.parents.items) old.references (counted_all old.targets) old.records (linked-by old.parents.items) (linked-by new.parents.items)
         (λ m. elim (same_or_other m n) [ inl same ↦ inr (λ y. ap (λ (k : ℕ). is_in_table old.records.referred k y) same ∙ shows-none y) | inr off ↦ inl (sym (moves.others m off)) ]) kept.records);
+  }
+
+-- ---- an element with the parent that it had
+
+module _ (old new : CountedKeys) (n : ℕ) (parent : Option ℕ) (moves : Reparents old new n parent) (same : parent ≡ parent_of old n) (kept : AreKept (links_by old.parents.items) old) where
+  parent-still : (m : ℕ) → parent_of new m ≡ parent_of old m
+  parent-still m =
+      elim (same_or_other m n) [
+        | inl is ↦ ap (parent_of new) is ∙ moves.here ∙ same ∙ ap (parent_of old) (sym is)
+        | inr off ↦ moves.others m off
+      ]
+
+  pub same-kept : AreKept (links_by new.parents.items) new
+  same-kept = record {
+    sound = subst (λ (x : References). AreReferences x) (sym moves.references) kept.sound;
+    parents = record { parents_are = λ m. refl; before = λ m p e. kept.parents.before m p (sym (parent-still m) ∙ e) };
+    records =
+        records-as (links_by new.parents.items) old.references new.references (counted_all old.targets) (counted_all new.targets) old.records new.records (sym moves.references) (ap counted_all (sym moves.targets)) (sym moves.records)
+        (records-still (links_by old.parents.items) (links_by new.parents.items) old.references (counted_all old.targets) old.records (linked-by old.parents.items) (linked-by new.parents.items)
+        (λ m. inl (sym (parent-still m))) kept.records);
   }

@@ -2,7 +2,7 @@ mod KeyrefLaws
 mod Linking
 mod Places
 mod Parents
-mod Counts
+pub mod Counts
 mod Growing
 mod Along
 mod Filling

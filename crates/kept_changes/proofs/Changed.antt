@@ -27,7 +27,7 @@ use Rattle.kept_changes.specs.Own.{Stays, HaveSameElements, Retexts, Reattribute
 filter-same : (p q : ℕ → Bool) (xs : List ℕ) → ((x : ℕ) → p x ≡ q x) → filter p xs ≡ filter q xs
 filter-same p q xs same = λ i. filter (λ x. same x i) xs
 
-flat-same : (f g : ℕ → List ℕ) (xs : List ℕ) → ((x : ℕ) → Has x xs → f x ≡ g x) → flat_map f xs ≡ flat_map g xs
+pub flat-same : (f g : ℕ → List ℕ) (xs : List ℕ) → ((x : ℕ) → Has x xs → f x ≡ g x) → flat_map f xs ≡ flat_map g xs
 flat-same f g [] same = refl
 flat-same f g (x ∷ xs) same = λ i. same x (inl refl) i ++ flat-same f g xs (λ y h. same y (inr h)) i
 

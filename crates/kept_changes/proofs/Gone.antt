@@ -37,7 +37,7 @@ use Rattle.kept_changes.specs.Turned.{Goes}
 use Rattle.kept_changes.specs.Steps.{TakesBelow}
 
 -- what has a node of these numbers as a child's descendant is below its parent
-has-below : (t : NameTable) (ns : Nodes) → IsSound ns → (n : ℕ) (f : Forest) → StandFor t ns f → ((x : ℕ) → Has x (firsts f) → parent_at ns x ≡ Some n) → (m : ℕ) → has m f ≡ true → IsBelow ns n m
+pub has-below : (t : NameTable) (ns : Nodes) → IsSound ns → (n : ℕ) (f : Forest) → StandFor t ns f → ((x : ℕ) → Has x (firsts f) → parent_at ns x ≡ Some n) → (m : ℕ) → has m f ≡ true → IsBelow ns n m
 has-below t ns sound n none s up m h = absurd (false≢true h)
 has-below t ns sound n (text number chars next) s up m h = elim (or_cases (number == m) (has m next) h) [
   | inl own ↦ subst (IsBelow ns n) (eqb-true number m own) (child-below ns number n number (up number (inl refl)) (self-within ns number))

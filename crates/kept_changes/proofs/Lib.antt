@@ -9,5 +9,6 @@ pub mod Turned
 pub mod RootNamed
 pub mod Grown
 pub mod Under
+pub mod from_kept_children
 pub mod from_kept_forgetting
 pub mod from_kept_records

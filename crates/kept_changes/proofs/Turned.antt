@@ -108,7 +108,7 @@ module _ (t : NameTable) (old new : Nodes) (d : Document) (z : StandsFor t old d
 both-ways : (b : Bool) → b ≡ true → b ≡ false → ⊥
 both-ways b one other = false≢true (sym other ∙ one)
 
-one-removal : (ns : Nodes) (key : ℕ) (a b : Spot) → IsRemoval ns key a → IsRemoval ns key b → a ≡ b
+pub one-removal : (ns : Nodes) (key : ℕ) (a b : Spot) → IsRemoval ns key a → IsRemoval ns key b → a ≡ b
 one-removal ns key (Planted n) b p q = absurd p
 one-removal ns key (Pruned n) (Planted m) p q = absurd q
 one-removal ns key (Pruned n) (Pruned m) p q = ap Pruned (p.0 ∙ sym q.0)

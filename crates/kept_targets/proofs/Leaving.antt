@@ -30,6 +30,7 @@ use Rattle.kept_targets.specs.Whole.{IsWhole}
 use Rattle.kept_targets.specs.declared.keys.ElementSign.{ElementSign}
 use Rattle.kept_targets.specs.declared.turn.Turn.{Turn}
 use Rattle.kept_targets.specs.declared.turn.Turn.TheVariants as turns
+use Rattle.kept_targets.proofs.Among.{has-or-not}
 use Rattle.kept_targets.proofs.Links.{child-up, parent-lower}
 use Rattle.kept_targets.proofs.Looking.{IsAsBefore, all-looked, as-before, child-stays, children-stay, fit-of, head-stays, made-of, names-stay, record-name, sign-is, sound, texts-stay, within-stays}
 use Rattle.kept_targets.proofs.Staying.{turned-seen}
@@ -49,14 +50,6 @@ list-above : (ns : Nodes) (turn : Turn) (n : ℕ) → list_of ns turn ≡ Some n
 list-above ns (turns.Own m) n e = absurd (none-some n e)
 list-above ns (turns.Listed m) n e = up-more ns m n n e (self-within ns n)
 list-above ns (turns.Gone p numbers) n e = subst (IsWithin ns n) (sym (same_Some p n e)) (self-within ns n)
-
-has-or-not : (n : ℕ) (xs : List ℕ) → Has n xs ⊎ (¬ Has n xs)
-has-or-not n [] = inr (λ h. h)
-has-or-not n (x ∷ xs) =
-    elim (cases_eq x n) [
-      | inl e ↦ inl (inl e)
-      | inr off ↦ elim (has-or-not n xs) [ inl later ↦ inl (inr later) | inr none ↦ inr (λ h. elim h [ inl e ↦ off e | inr later ↦ none later ]) ]
-    ]
 
 -- a number is another or above it, or is not
 within-or-not : (ns : Nodes) → IsSound ns → (n levels m : ℕ) → depth_by (node ns m) ≤ levels → IsWithin ns n m ⊎ (¬ IsWithin ns n m)

@@ -5,4 +5,17 @@ pub mod Staying
 pub mod Looking
 pub mod Leaving
 pub mod Down
-mod Named
+pub mod Named
+mod Among
+mod Uncounted
+mod Counts
+mod Adding
+mod Around
+mod Coded
+mod Touching
+mod Marking
+mod Scopes
+mod Retargeted
+mod Opened
+mod Sited
+mod Bridged

@@ -14,6 +14,12 @@ use Rattle.kept_targets.specs.declared.keys.TargetKeys.{TargetKeys}
 abbrev pub scopes_at : Compiled → KeptSlots → ℕ → List ℕ
 scopes_at c ks n = constraints_of c.parts (seen_element (entry_at ks n))
 
+-- a number is behind others, or it need not be
+pub record IsNoted (free : Type 0) (n : ℕ) (old new : List ℕ) : Type 0 where
+  pub here : Has n new ⊎ free
+  pub still : (m : ℕ) → Has m old → Has m new
+  pub only : (m : ℕ) → Has m new → Has m old ⊎ (m ≡ n)
+
 -- Of an element and all above it those are added that are kept as targets, and those that have identity constraints; all that are added
 -- are such elements.
 pub record IsTouching (c : Compiled) (ns : Nodes) (ks : KeptSlots) (keys : TargetKeys) (n : ℕ) (old new : Touched) : Type 0 where

@@ -15,7 +15,7 @@ ghost use Rattle.doc_changes.specs.Held.{parent_at};
 ghost use Rattle.child_lists.specs.from_kept_forgetting.Below.{IsWithin};
 ghost use Rattle.child_lists.specs.from_kept_records.Slots.{IsMade, entry_at};
 ghost use Rattle.kept_targets.specs.Kept.{kin_of};
-ghost use Rattle.kept_targets.specs.Touched.{IsTouching, scopes_at};
+ghost use Rattle.kept_targets.specs.Touched.{IsNoted, IsTouching, scopes_at};
 ghost use Rattle.kept_targets.specs.Whole.{IsWhole};
 
 use crate::keys::TargetKeys;
@@ -40,6 +40,29 @@ fn is_scope(by: &Kept<'_>, node: u32) -> bool
     !constraints_of(&by.set.parts, &sight_of(by.state.at(node))).is_empty()
 }
 
+// Puts an element behind others, where it is a target.
+fn note_target(keys: &TargetKeys, node: u32, targets: &mut Vec<u32>) -> Result<(), AllocError>
+    ensures { OnOk result (IsNoted (targets_of keys.now.counted node ≡ []) node targets.old.items targets.new.items) }
+{
+    if !keys.counted.is_target(node) {
+        return Ok(());
+    }
+    targets.push(node)?;
+    Ok(())
+}
+
+// Puts an element behind others, where it has identity constraints.
+fn note_scope(by: &Kept<'_>, node: u32, scopes: &mut Vec<u32>) -> Result<(), AllocError>
+    requires { IsMade by.now.state.now.records.slots node }
+    ensures { OnOk result (IsNoted (scopes_at by.now.set.now by.now.state.now.records.slots node ≡ []) node scopes.old.items scopes.new.items) }
+{
+    if !is_scope(by, node) {
+        return Ok(());
+    }
+    scopes.push(node)?;
+    Ok(())
+}
+
 /// Puts an element and those above it behind others: where they are targets, and where they have identity constraints.
 ///
 /// # Errors
@@ -57,12 +80,8 @@ pub(crate) fn add_touching(
 {
     let mut next = Some(node);
     'up: while let Some(own) = next {
-        if keys.counted.is_target(own) {
-            touched.targets.push(own)?;
-        }
-        if is_scope(by, own) {
-            touched.scopes.push(own)?;
-        }
+        note_target(keys, own, &mut touched.targets)?;
+        note_scope(by, own, &mut touched.scopes)?;
         next = by.doc.parent(own);
     }
     Ok(())
@@ -116,5 +135,6 @@ pub(crate) fn targetings_at(
 {
     let scopes = scopes_of(by, node)?;
     let target = KeptSiblings::from(by.doc, &by.state.records, node);
-    targetings_of(&key_set(by), target, scopes.as_slice())
+    let found = targetings_of(&key_set(by), target, scopes.as_slice())?;
+    Ok(found)
 }

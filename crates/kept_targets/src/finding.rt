@@ -8,11 +8,12 @@ ghost use Rattle.doc_nodes.specs.Nodes.{Has, Lacks, element_children, is_element
 ghost use Rattle.doc_changes.specs.Held.{parent_at};
 ghost use Rattle.child_lists.specs.from_kept_records.Slots.{IsMade, kept_at};
 ghost use Rattle.child_lists.specs.from_kept_records.Found.{IsOver, found_in};
-ghost use Rattle.counted_keys.specs.Kept.{parent_of};
+ghost use Rattle.scope_targets.specs.Targetings.{Targeting};
+ghost use Rattle.counted_keys.specs.Kept.{parent_of, targets_of};
 ghost use Rattle.kept_slots.specs.Slots.{at};
-ghost use Rattle.kept_targets.specs.Counting.{Adopts, AreScopesAbove, CanAdopt, Finds, Forgets, IsCounting};
+ghost use Rattle.kept_targets.specs.Counting.{Adopts, AreScopesAbove, CanAdopt, Drops, Finds, Forgets, IsCounting, IsNoTarget};
 ghost use Rattle.kept_targets.specs.Kept.{AreTargets, IsTargetOf};
-ghost use Rattle.kept_targets.specs.Moved.{IsLookedAt, IsMarked};
+ghost use Rattle.kept_targets.specs.Moved.{Adds, IsLookedAt, IsMarked};
 ghost use Rattle.kept_targets.specs.Touched.{IsTouching};
 ghost use Rattle.kept_targets.specs.declared.above.Touched.{Touched as TouchedData};
 ghost use Rattle.kept_targets.specs.Turned.{WereTargets, list_of, lowest_of, own_of};
@@ -27,6 +28,50 @@ use compiled_schema::Compiled;
 use doc_tree::DocTree;
 use std::alloc::AllocError;
 
+// An element, with those below it, where their signs are others than before.
+fn own_moved(by: &Kept<'_>, keys: &TargetKeys, node: u32) -> Result<Vec<u32>, AllocError>
+    requires whole { IsWhole by.now.set.now by.now.doc.now by.now.state.now }
+    requires element { is_element_at by.now.doc.now node ≡ true }
+    ensures looked { IfOk result (λ moved. IsLookedAt by.now.set.now.parts by.now.doc.now by.now.state.now.records.slots (at keys.now.signs) moved.items node) }
+    ensures adds { IfOk result (λ moved. Adds by.now.doc.now [] moved.items (λ m. m ≡ node)) }
+{
+    let mut moved = Vec::new(by.state.alloc);
+    add_moved(by, keys, node, &mut moved)?;
+    Ok(moved)
+}
+
+// The same of the child elements of an element whose names are ambivalent.
+fn marked_moved(by: &Kept<'_>, keys: &TargetKeys, parent: u32) -> Result<Vec<u32>, AllocError>
+    requires whole { IsWhole by.now.set.now by.now.doc.now by.now.state.now }
+    requires element { is_element_at by.now.doc.now parent ≡ true }
+    ensures looked { IfOk result (λ moved. (n : ℕ) → IsMarked by.now.set.now by.now.doc.now by.now.state.now parent n
+        → IsLookedAt by.now.set.now.parts by.now.doc.now by.now.state.now.records.slots (at keys.now.signs) moved.items n) }
+    ensures adds { IfOk result (λ moved. Adds by.now.doc.now [] moved.items (λ m. Has m (element_children by.now.doc.now parent))) }
+{
+    let mut moved = Vec::new(by.state.alloc);
+    add_marked(by, keys, parent, None, &mut moved)?;
+    Ok(moved)
+}
+
+// The same of an element and of the other child elements of its parent whose names are ambivalent.
+fn listed_moved(by: &Kept<'_>, keys: &TargetKeys, node: u32) -> Result<Vec<u32>, AllocError>
+    requires whole { IsWhole by.now.set.now by.now.doc.now by.now.state.now }
+    requires element { is_element_at by.now.doc.now node ≡ true }
+    ensures looked { IfOk result (λ moved. IsLookedAt by.now.set.now.parts by.now.doc.now by.now.state.now.records.slots (at keys.now.signs) moved.items node) }
+    ensures marked { IfOk result (λ moved. (p n : ℕ) → parent_at by.now.doc.now node ≡ Some p → (node ≡ n → ⊥) → IsMarked by.now.set.now by.now.doc.now by.now.state.now p n
+        → IsLookedAt by.now.set.now.parts by.now.doc.now by.now.state.now.records.slots (at keys.now.signs) moved.items n) }
+    ensures adds { IfOk result (λ moved. Adds by.now.doc.now [] moved.items (λ m. (m ≡ node) ⊎ ((p : ℕ) × (parent_at by.now.doc.now node ≡ Some p) × Has m (element_children by.now.doc.now p)))) }
+{
+    let mut moved = own_moved(by, keys, node)?;
+    match by.doc.parent(node) {
+        None => Ok(moved),
+        Some(parent) => {
+            add_marked(by, keys, parent, Some(node), &mut moved)?;
+            Ok(moved)
+        }
+    }
+}
+
 // The elements whose signs are others than before.
 fn moved_by(by: &Kept<'_>, keys: &TargetKeys, turn: &Turn) -> Result<Vec<u32>, AllocError>
     requires whole { IsWhole by.now.set.now by.now.doc.now by.now.state.now }
@@ -37,18 +82,38 @@ fn moved_by(by: &Kept<'_>, keys: &TargetKeys, turn: &Turn) -> Result<Vec<u32>, A
     ensures only { IfOk result (λ moved. (m : ℕ) → Has m moved.items → (is_element_at by.now.doc.now m ≡ true) × ((own_of turn.now ≡ Some m)
         ⊎ (((p : ℕ) × (list_of by.now.doc.now turn.now ≡ Some p) × Has m (element_children by.now.doc.now p)) ⊎ ((p : ℕ) × (parent_at by.now.doc.now m ≡ Some p) × Has p moved.items)))) }
 {
-    let mut moved = Vec::new(by.state.alloc);
     match turn {
-        Turn::Own(node) => add_moved(by, keys, *node, &mut moved)?,
-        Turn::Listed(node) => {
-            add_moved(by, keys, *node, &mut moved)?;
-            if let Some(parent) = by.doc.parent(*node) {
-                add_marked(by, keys, parent, Some(*node), &mut moved)?;
-            }
-        }
-        Turn::Gone { parent, .. } => add_marked(by, keys, *parent, None, &mut moved)?,
+        Turn::Own(node) => own_moved(by, keys, *node),
+        Turn::Listed(node) => listed_moved(by, keys, *node),
+        Turn::Gone { parent, .. } => marked_moved(by, keys, *parent),
     }
-    Ok(moved)
+}
+
+// Takes elements out as targets.
+fn take_each(keys: &mut TargetKeys, nodes: &[u32]) -> Result<(), AllocError>
+    requires { IsCounting keys.old }
+    ensures counting { OnOk result (IsCounting keys.new) }
+    ensures takes { OnOk result (Finds IsNoTarget keys.old keys.new nodes.now) }
+{
+    for node in nodes {
+        keys.counted.take_targets(*node)?;
+    }
+    Ok(())
+}
+
+// Keeps no parents and no signs of elements any more, which are the scopes of no targets.
+fn drop_each(keys: &mut TargetKeys, nodes: &[u32]) -> Result<(), AllocError>
+    requires counting { IsCounting keys.old }
+    requires none { (n m : ℕ) (a : Targeting) → Has n nodes.now → Has a (targets_of keys.old.counted m) → a.scope ≡ n → ⊥ }
+    requires whole { (n c : ℕ) → Has n nodes.now → parent_of keys.old.counted c ≡ Some n → Has c nodes.now }
+    ensures counting { OnOk result (IsCounting keys.new) }
+    ensures drops { OnOk result (Drops keys.old keys.new nodes.now) }
+{
+    for node in nodes {
+        keys.counted.set_parent(*node, None)?;
+        keys.signs.take(*node);
+    }
+    Ok(())
 }
 
 // Keeps nothing of elements that are gone any more.
@@ -59,14 +124,8 @@ fn forget(keys: &mut TargetKeys, gone: &[u32]) -> Result<(), AllocError>
     ensures counting { OnOk result (IsCounting keys.new) }
     ensures forgets { OnOk result (Forgets keys.old keys.new gone.now) }
 {
-    for node in gone {
-        keys.counted.take_targets(*node)?;
-    }
-    for node in gone {
-        keys.counted.set_parent(*node, None)?;
-        keys.signs.take(*node);
-    }
-    Ok(())
+    take_each(keys, gone)?;
+    drop_each(keys, gone)
 }
 
 // Keeps the parents and the signs of elements.
@@ -145,8 +204,6 @@ pub fn retarget(
     find_again(&by, keys, moved.as_slice())?;
     find_again(&by, keys, touched.targets.as_slice())?;
     let mut scopes = touched.scopes;
-    for node in moved.as_slice() {
-        scopes.push(*node)?;
-    }
+    scopes.extend_from_slice(moved.as_slice())?;
     Ok(scopes)
 }

@@ -129,6 +129,25 @@ fn add_children(
     Ok(())
 }
 
+// The same of an element, unless it is one that was looked at.
+fn add_other(
+    by: &Kept<'_>,
+    keys: &TargetKeys,
+    node: u32,
+    but: Option<u32>,
+    moved: &mut Vec<u32>,
+) -> Result<(), AllocError>
+    requires whole { IsWhole by.now.set.now by.now.doc.now by.now.state.now }
+    requires element { is_element_at by.now.doc.now node ≡ true }
+    ensures looked { OnOk result ((but ≡ Some node → ⊥) → law.IsLookedAt by.now.set.now.parts by.now.doc.now by.now.state.now.records.slots (at keys.now.signs) moved.new.items node) }
+    ensures adds { OnOk result (law.Adds by.now.doc.now moved.old.items moved.new.items (λ m. m ≡ node)) }
+{
+    if but == Some(node) {
+        return Ok(());
+    }
+    add_moved(by, keys, node, moved)
+}
+
 /// The same of those child elements of an element whose names are ambivalent, but for one that was looked at.
 pub(crate) fn add_marked(
     by: &Kept<'_>,
@@ -152,9 +171,7 @@ pub(crate) fn add_marked(
         let Some(child) = by.doc.element_at(parent, place) else {
             return Ok(());
         };
-        if Some(child) != but {
-            add_moved(by, keys, child, moved)?;
-        }
+        add_other(by, keys, child, but, moved)?;
     }
     Ok(())
 }

@@ -56,7 +56,8 @@ impl<'a> KeptSiblings<'a> {
 
     /// An element of which something is kept, with all elements below it, and the child elements of its parent behind it.
     pub(crate) fn from(doc: &'a DocTree, records: &'a KeptRecords, node: u32) -> Self
-        ensures { (c : CompiledData) (k : KeptData) → IsWhole c doc.now k → k.records ≡ records.now → is_element_at doc.now node ≡ true → IsFrom doc.now records.now.slots node (siblings_of result) }
+        ensures first { (c : CompiledData) (k : KeptData) → IsWhole c doc.now k → k.records ≡ records.now → is_element_at doc.now node ≡ true → IsFrom doc.now records.now.slots node (siblings_of result) }
+        ensures named { (c : CompiledData) (k : KeptData) → IsWhole c doc.now k → k.records ≡ records.now → sight.AreNamed c.names (siblings_of result) }
     {
         KeptSiblings {
             doc,

@@ -148,16 +148,16 @@ module _ (a b : CompiledSet) (same : IsSameMade a b) where
   set-outcomes-same (Broken f) (Broken g) p q = same_Some f g (late-same (Some f) (Some g) p q)
 
 -- ---- what documents come to
-module _ (inputs : List SchemaInput) where
+module _ (inputs : List SchemaInput) (start : ℕ) where
   faults-same : (f g : Fault) → IsCompilation inputs start (Err f) → IsCompilation inputs start (Err g) → IsSameOutcome (Broken f) (Broken g)
-  faults-same f g p q = compilations-same inputs (Err f) (Err g) p q
+  faults-same f g p q = compilations-same inputs start (Err f) (Err g) p q
 
   broken-or-made : (f : Fault) (made : CompiledSet) → IsCompilation inputs start (Err f) → IsCompilation inputs start (Ok made) → ⊥
-  broken-or-made f made p q = compilations-same inputs (Err f) (Ok made) p q
+  broken-or-made f made p q = compilations-same inputs start (Err f) (Ok made) p q
 
   pub outcomes-same : (x y : Outcome) → IsOutcome inputs start x → IsOutcome inputs start y → IsSameOutcome x y
   outcomes-same x y (inl p) (inl q) =
       subst (λ (o : Outcome). IsSameOutcome o y) (sym p.2) (subst (IsSameOutcome (Broken p.0)) (sym q.2) (faults-same p.0 q.0 p.1 q.1))
   outcomes-same x y (inl p) (inr q) = absurd (broken-or-made p.0 q.0 p.1 q.1)
   outcomes-same x y (inr p) (inl q) = absurd (broken-or-made q.0 p.0 q.1 p.1)
-  outcomes-same x y (inr p) (inr q) = set-outcomes-same p.0 q.0 (compilations-same inputs (Ok p.0) (Ok q.0) p.1 q.1) x y p.2 q.2
+  outcomes-same x y (inr p) (inr q) = set-outcomes-same p.0 q.0 (compilations-same inputs start (Ok p.0) (Ok q.0) p.1 q.1) x y p.2 q.2

@@ -1,6 +1,6 @@
 //! The law of outcomes.
 
-ghost use Rattle.std.specs.Prelude.{List};
+ghost use Rattle.std.specs.Prelude.{ℕ, List};
 ghost use Rattle.outcome_laws.specs.Same.{IsSameOutcome};
 ghost use Rattle.schema_compile.specs.Outcomes.{IsOutcome};
 ghost use Rattle.schema_compile.specs.declared.outcome.Outcome.{Outcome};

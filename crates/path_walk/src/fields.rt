@@ -31,10 +31,7 @@ fn count_down(steps: &[Step]) -> usize
 fn reaches_deeper(field: &Paths, depth: usize) -> bool
     ensures { result ≡ false → EndsWithin field.now depth }
 {
-    field
-        .as_slice()
-        .iter()
-        .any(|path| path.anywhere || depth < count_down(path.steps.as_slice()))
+    field.as_slice().iter().any(|path| path.anywhere || depth < count_down(path.steps.as_slice()))
 }
 
 // Adds the nodes of a field among siblings and what is below them. The way leads to their parent, and is kept.

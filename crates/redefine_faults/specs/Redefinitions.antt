@@ -133,9 +133,9 @@ module _ (available : List Available) where
         → BreaksHere document shapes target of name child code.XRedefineCircle
     own : (c : Code) → Breaks shapes target name child.shape of c → BreaksHere document shapes target of name child c
 
-  -- A constraint that what stands in a redefine of the set breaks. A document that is in the set with several target namespaces breaks
-  -- what it breaks with one of them.
-  pub record IsRedefineFault (f : Fault) : Type 0 where
+  -- A constraint that what stands in a redefine breaks, in the set that starts at this place. A document that is in the set with several
+  -- target namespaces breaks what it breaks with one of them.
+  pub record IsRedefineFault (start : ℕ) (f : Fault) : Type 0 where
     pub place : ℕ
     pub document : Available
     pub target : Option (List ℕ)

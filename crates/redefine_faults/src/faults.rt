@@ -1,4 +1,4 @@
-ghost use Rattle.std.specs.Prelude.{◌≡◌, ◌<◌, ◌^◌, Contains, map, length, All, IfOk};
+ghost use Rattle.std.specs.Prelude.{◌≡◌, ◌<◌, ◌^◌, ℕ, Contains, map, length, All, IfOk};
 ghost use Rattle.std.specs.Option.{option_map};
 ghost use Rattle.std.specs.List.Sorted.{IsPermutation};
 ghost use Rattle.xs_codes.specs.Least.{IsLeast};
@@ -179,8 +179,7 @@ pub fn first_redefine_fault<'a>(
     set: &[SetDocument<'a>],
 ) -> Result<Option<Fault>, AllocError>
     requires some { 0 < length available.now }
-    requires set { (start : ℕ) × IsEffectiveSet available.now start set.now }
-    ensures least { (start : ℕ) → IsEffectiveSet available.now start set.now → IfOk result (IsLeast (spec.IsRedefineFault available.now start)) }
+    ensures least { IfOk result (λ found. (start : ℕ) → IsEffectiveSet available.now start set.now → IsLeast (spec.IsRedefineFault available.now start) found) }
 {
     if available.len() > MOST {
         return Err(AllocError);

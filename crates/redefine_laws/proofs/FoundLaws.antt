@@ -41,7 +41,7 @@ redefined-is : (form : Form) (location : List ℕ) → redefined form ≡ Some l
 redefined-is (forms.Redefine other) location is = inr (ap (λ (l : List ℕ). forms.Redefine l) (same_Some other location is))
 redefined-is _ location is = absurd (none-some location is)
 
-module _ (sources : List Available) (start : ℕ) (set : List SetDocument) (effective : IsEffectiveSet sources start set) where
+module _ (sources : List Available) {start : ℕ} (set : List SetDocument) (effective : IsEffectiveSet sources start set) where
   -- a document of the set says what one of its elements does
   says : (document : ℕ) (target : Option (List ℕ)) → InSet sources start document target → (s : Shape) → Contains (shapes_at sources document) s → (location : List ℕ) → IsInclusion s.form location
       → Says sources document (λ form. IsInclusion form location)
@@ -124,7 +124,7 @@ found-some {X} test (y ∷ xs) n x at is = by (test y) refl n at (λ k there. fo
     by false e (suc n) at later = let rest = later n at in (rest.0, ap (λ (b : Bool). cond b (Some y) (find test xs)) e ∙ rest.1)
 
 -- ---- each redefining component has an original
-module _ (sources : List Available) (start : ℕ) (set : List SetDocument) (effective : IsEffectiveSet sources start set) (originals : List (Option ℕ)) (are : AreOriginals sources set originals)
+module _ (sources : List Available) {start : ℕ} (set : List SetDocument) (effective : IsEffectiveSet sources start set) (originals : List (Option ℕ)) (are : AreOriginals sources set originals)
     (all : (i : ℕ) (d : SetDocument) → slice_get set i ≡ Some d → AreElements (shapes_of d)) (sound : (f : Fault) → IsRedefineFault sources start f → ⊥)
   where
     module _ (version : ℕ) (slot : Slot) (at : slice_get (slots 0 set) version ≡ Some slot) (of : Redefinable) (name : List ℕ) (declares : declared_as slot.shape.form ≡ Some (of, name)) where

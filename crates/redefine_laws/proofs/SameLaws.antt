@@ -42,7 +42,7 @@ module _ (base : NameTable) (inputs : List SchemaInput) (set : List SetDocument)
   abbrev reps : List Representation
   reps = set_reps base set
 
-  effective : IsEffectiveSet sources start set
+  effective : IsEffectiveSet sources c.start set
   effective = c.is_set.0
 
   all : (i : ℕ) (d : SetDocument) → slice_get set i ≡ Some d → AreElements (shapes_of d)

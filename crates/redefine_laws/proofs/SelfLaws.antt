@@ -58,14 +58,14 @@ module _ (inputs : List SchemaInput) (trees : All (λ (input : SchemaInput). IsT
   own-space : (n : ℕ) (a : Available) → slice_get (available inputs) n ≡ Some a → IsSpace (own_target a.shaped.shapes)
   own-space n a at = let from = input-of n a at in subst (λ (x : Available). IsSpace (own_target x.shaped.shapes)) from.2 (target-space (constructs_of from.0.tree.forest))
 
-  in-space : (number : ℕ) (target : Option (List ℕ)) → InSet (available inputs) start number target → IsSpace target
-  in-space _ _ (first a at) = own-space 0 a at
-  in-space _ _ (included document other target location within says is) = in-space document target within
-  in-space _ _ (imported document n target location b within says is at) = own-space n b at
+  in-space : (start number : ℕ) (target : Option (List ℕ)) → InSet (available inputs) start number target → IsSpace target
+  in-space start _ _ (first a at) = own-space start a at
+  in-space start _ _ (included document other target location within says is) = in-space start document target within
+  in-space start _ _ (imported document n target location b within says is at) = own-space n b at
 
-  module _ (set : List SetDocument) (is : IsEffectiveSet (available inputs) start set) where
+  module _ {start : ℕ} (set : List SetDocument) (is : IsEffectiveSet (available inputs) start set) where
     pub set-space : (i : ℕ) (d : SetDocument) → slice_get set i ≡ Some d → IsSpace d.target
-    set-space i d at = in-space d.number d.target (All-contains (λ (x : SetDocument). InSet (available inputs) start x.number x.target) set d is.only (at-contains set i d at))
+    set-space i d at = in-space start d.number d.target (All-contains (λ (x : SetDocument). InSet (available inputs) start x.number x.target) set d is.only (at-contains set i d at))
 
     pub set-elements : (i : ℕ) (d : SetDocument) → slice_get set i ≡ Some d → AreElements (shapes_of d)
     set-elements i d at =
@@ -84,7 +84,7 @@ refers-same : (d e : SetDocument) (s u : Shape) (a b : Redefinable × List ℕ) 
 refers-same d e s u a b document shape declared to =
     transport (λ i. is_self_reference (shapes_of (document i)) (document i).target (declared i).0 (declared i).1 (shape i).form ≡ true) to
 
-module _ (base : NameTable) (sources : List Available) (set : List SetDocument) (originals : List (Option ℕ)) (are : AreOriginals sources set originals)
+module _ (base : NameTable) (sources : List Available) {start : ℕ} (set : List SetDocument) (originals : List (Option ℕ)) (are : AreOriginals sources set originals)
     (effective : IsEffectiveSet sources start set) (all : (i : ℕ) (d : SetDocument) → slice_get set i ≡ Some d → AreElements (shapes_of d))
     (space : (i : ℕ) (d : SetDocument) → slice_get set i ≡ Some d → IsSpace d.target)
   where

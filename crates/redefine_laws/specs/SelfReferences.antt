@@ -31,8 +31,10 @@ pub record RefersToItself (set : List SetDocument) (version place : ℕ) : Type 
   pub there : slice_get (elements set) place ≡ Some (document, reference)
   pub refers : IsSelfReference (shapes_of document) document.target of name child.shape reference
 
--- the set that documents' trees lead to, and the originals of what it redefines, where no constraint on redefines is broken
+-- the set that starts at one of the documents, by their trees, and the originals of what it redefines, where no constraint on redefines is
+-- broken
 pub record AreComposed (inputs : List SchemaInput) (set : List SetDocument) (originals : List (Option ℕ)) : Type 0 where
+  pub start : ℕ
   pub trees : All (λ input. IsTree input.tree) inputs
   pub is_set : IsSet inputs start set
   pub are_originals : AreOriginals (available inputs) set originals

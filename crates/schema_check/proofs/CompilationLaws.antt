@@ -21,18 +21,18 @@ composed-set (Ok answer) available set originals of h = (originals, of, h)
 composed-set (Err e) available set originals of h = h
 
 -- a set without a fault of phase 2
-pub composed : {E : Type 0} (result : Result (Result CompiledSet Fault) E) (available : List Available) (set : List SetDocument) → IsComposed available None
-    → IfOk result (IsComposedCompiled available set) → IfOk result (IsClosedCompiled available set)
-composed (Ok (Ok made)) available set none h = (none, h.0, h.1, h.2)
-composed (Ok (Err fault)) available set none h = inr (none, h.0, h.1, h.2)
-composed (Err e) available set none h = h
+pub composed : {E : Type 0} (result : Result (Result CompiledSet Fault) E) (available : List Available) (start : ℕ) (set : List SetDocument) → IsComposed available start None
+    → IfOk result (IsComposedCompiled available set) → IfOk result (IsClosedCompiled available start set)
+composed (Ok (Ok made)) available start set none h = (none, h.0, h.1, h.2)
+composed (Ok (Err fault)) available start set none h = inr (none, h.0, h.1, h.2)
+composed (Err e) available start set none h = h
 
-module _ (documents : List SchemaInput) where
+module _ (documents : List SchemaInput) (start : ℕ) where
   pub shape-phase : (found : Option Fault) → IsLeast (IsShapeFault documents start) found → shape_phase documents start found
   unfolding shape_phase
   shape-phase found least = least
 
-  composition-phase : (found : Option Fault) → IsComposed (available documents) found → composition_phase documents start found
+  composition-phase : (found : Option Fault) → IsComposed (available documents) start found → composition_phase documents start found
   unfolding composition_phase
   composition-phase found least = least
 
@@ -48,17 +48,17 @@ module _ (documents : List SchemaInput) where
         ((λ f p. (set, originals, of, are, p)), ((λ f p. (set, originals, of, are, p)), ((λ f p. (set, originals, of, are, p)), tt))) h)
 
     refused : (fault : Fault)
-        → IsComposed (available documents) (Some fault)
-        ⊎ (IsComposed (available documents) None × (originals : List (Option ℕ)) × AreOriginals (available documents) set originals × IsSetCompiled set originals (Err fault))
+        → IsComposed (available documents) start (Some fault)
+        ⊎ (IsComposed (available documents) start None × (originals : List (Option ℕ)) × AreOriginals (available documents) set originals × IsSetCompiled set originals (Err fault))
         → IsFirstOfPhases (later_phases documents start) (Some fault)
     refused fault (inl here) = inl (composition-phase (Some fault) here)
     refused fault (inr later) = behind later.1 (Some fault) later.2 (composition-phase None later.0) later.3
 
     pub closed-compiled : {E : Type 0} (result : Result (Result CompiledSet Fault) E) (shown : List Available) → shown ≡ available documents
-        → IfOk result (IsClosedCompiled shown set) → IfOk result (IsCompilation documents start)
-    closed-compiled result shown same h = by-all result (subst (λ (l : List Available). IfOk result (IsClosedCompiled l set)) same h)
+        → IfOk result (IsClosedCompiled shown start set) → IfOk result (IsCompilation documents start)
+    closed-compiled result shown same h = by-all result (subst (λ (l : List Available). IfOk result (IsClosedCompiled l start set)) same h)
       where
-        by-all : {F : Type 0} (answer : Result (Result CompiledSet Fault) F) → IfOk answer (IsClosedCompiled (available documents) set) → IfOk answer (IsCompilation documents start)
+        by-all : {F : Type 0} (answer : Result (Result CompiledSet Fault) F) → IfOk answer (IsClosedCompiled (available documents) start set) → IfOk answer (IsCompilation documents start)
         by-all (Ok (Ok made)) k = ((shaped, behind k.1 None k.2 (composition-phase None k.0) k.3.0), set, k.1, of, k.2, k.3)
         by-all (Ok (Err fault)) k = inr (shaped, refused fault k)
         by-all (Err e) k = tt

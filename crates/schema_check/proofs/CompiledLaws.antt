@@ -32,7 +32,7 @@ use Rattle.schema_check.specs.Simple.{AreTypesSimple}
 use Rattle.schema_check.specs.SimpleParts.{HasSimpleTypes}
 use Rattle.schema_check.proofs.TypeLaws.{of-set}
 
-module _ (documents : List SchemaInput) (trees : All (λ input. IsTree input.tree) documents) where
+module _ (documents : List SchemaInput) (start : ℕ) (trees : All (λ input. IsTree input.tree) documents) where
   no-faults : shape_phase documents start None → (f : Fault) → IsShapeFault documents start f → ⊥
   unfolding shape_phase
   no-faults none = none
@@ -47,7 +47,7 @@ module _ (documents : List SchemaInput) (trees : All (λ input. IsTree input.tre
       let set = is.1 in (
         set,
         is.2,
-        (λ k d h. of-tree (get_or set k d) (all-shaped documents set is.3 (no-faults is.0.0) k d h)),
+        (λ k d h. of-tree (get_or set k d) (all-shaped documents start set is.3 (no-faults is.0.0) k d h)),
         is.5,
       )
 
@@ -77,4 +77,4 @@ module _ (resolve : (t : NameTable) (origins : List Origin) (reps : List Represe
         grown parts made.parts ranked.0 (parts-simple set originals parts of is.0.0 is.1.2) ranked.1.filled.grown
 
     pub compiled-simple : (documents : List SchemaInput) (start : ℕ) (made : CompiledSet) → All (λ input. IsTree input.tree) documents → IsCompilation documents start (Ok made) → HasSimpleTypes made.parts
-    compiled-simple documents made trees is = let s = shaped-set documents trees made is in set-simple s.0 s.1 made s.2 s.3
+    compiled-simple documents start made trees is = let s = shaped-set documents start trees made is in set-simple s.0 s.1 made s.2 s.3

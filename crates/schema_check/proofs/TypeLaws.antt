@@ -1,5 +1,5 @@
 -- Documents of the right shape, and what is built of them.
-use Rattle.std.proofs.Common.{◌≡◌, List, All, sym, ap, subst, ◌∙◌}
+use Rattle.std.proofs.Common.{◌≡◌, ℕ, List, All, sym, ap, subst, ◌∙◌}
 use Rattle.std.proofs.lemmas.List.Elements.{All-weaker}
 use Rattle.std.proofs.lemmas.Option.{get_or_from_slice_get, slice_get_within}
 use Rattle.xs_components.specs.Tables.{Tables}
@@ -19,7 +19,7 @@ use Rattle.schema_check.specs.SimpleParts.{HasSimpleTypes}
 
 -- the documents of a set are among those that there are
 pub documents-of : (available : List Available) (start : ℕ) (ds : List SetDocument) → All (λ a. IsDeclared a.shaped) available → IsEffectiveSet available start ds → All IsOfTree ds
-documents-of available ds all set = All-weaker (IsDocument available) IsOfTree one ds set.there
+documents-of available start ds all set = All-weaker (IsDocument available) IsOfTree one ds set.there
   where
     one : (d : SetDocument) → IsDocument available d → IsOfTree d
     one d is =

@@ -13,7 +13,8 @@ use build_components::tables_are_closed;
 use redefine_faults::first_redefine_fault;
 use redefine_originals::set_originals;
 use schema_set::{
-    Available, ClosedSet, EffectiveSet, SchemaInput, close_set_from, first_shape_fault, read_documents,
+    Available, ClosedSet, EffectiveSet, SchemaInput, close_set_from, first_shape_fault,
+    read_documents,
 };
 use std::alloc::{AllocError, Global};
 use xs_codes::{Fault, sooner};

@@ -1,4 +1,4 @@
-ghost use Rattle.std.specs.Prelude.{◌≡◌, List, None, All};
+ghost use Rattle.std.specs.Prelude.{◌≡◌, ℕ, List, None, All};
 ghost use Rattle.xs_codes.specs.Least.{IsLeast};
 ghost use Rattle.xs_names.specs.Names.{NameTable};
 ghost use Rattle.xs_components.specs.Tables.{Tables};

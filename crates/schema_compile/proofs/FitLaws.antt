@@ -115,4 +115,4 @@ module _ (closed : (source : Source) (t : Tables) → t ≡ built source → IsC
 
     pub compiled-fit : ((documents : List SchemaInput) (start : ℕ) (made : CompiledSet) → All (λ input. IsTree input.tree) documents → IsCompilation documents start (Ok made) → (set : List SetDocument) × (originals : List (Option ℕ)) × All IsOfTree set × IsSetCompiled set originals (Ok made))
         → (documents : List SchemaInput) (start : ℕ) (made : CompiledSet) → All (λ input. IsTree input.tree) documents → IsCompilation documents start (Ok made) → IsFit made
-    compiled-fit shaped documents made trees_are is = let s = shaped documents made trees_are is in set-fit s.0 s.1 made s.2 s.3
+    compiled-fit shaped documents start made trees_are is = let s = shaped documents start made trees_are is in set-fit s.0 s.1 made s.2 s.3

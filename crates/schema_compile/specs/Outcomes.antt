@@ -70,8 +70,8 @@ abbrev pub IsSetOutcome : CompiledSet → Outcome → Type 0
 IsSetOutcome made (Accepted c) = IsFirstOfPhases (late_phases made) None × IsOf made c × IsUsable c × HaveUses made.parts
 IsSetOutcome made (Broken fault) = IsFirstOfPhases (late_phases made) (Some fault)
 
--- What documents come to where a set starts at the one of this place: the first fault of the first phase that has one, by document, element and the order of codes; else the
--- compiled set, by which documents may be assessed.
+-- What documents come to where a set starts at the one of this place: the first fault of the first phase that has one, by document,
+-- element and the order of codes; else the compiled set, by which documents may be assessed.
 abbrev pub IsOutcome : List SchemaInput → ℕ → Outcome → Type 0
 IsOutcome documents start outcome =
     ((fault : Fault) × IsCompilation documents start (Err fault) × (outcome ≡ Broken fault)) ⊎

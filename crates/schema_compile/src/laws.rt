@@ -1,4 +1,4 @@
-ghost use Rattle.std.specs.Prelude.{List, Ok, All};
+ghost use Rattle.std.specs.Prelude.{ℕ, List, Ok, All};
 ghost use Rattle.tree_rows.specs.Whole.{IsTree};
 ghost use Rattle.schema_check.specs.Compilation.{IsCompilation};
 ghost use Rattle.schema_set.specs.declared.inputs.SchemaInput.{SchemaInput};

@@ -139,7 +139,8 @@ module _ (available : List Available) (start : ℕ) (some : start < length avail
   rising d e x y is js h =
       let s = div-add-mod' x (length available) in
       let t = div-add-mod' y (length available) in
-      let rows : x / length available ≤ y / length available = le-div (x / length available) y (length available) some (omega (arith, s, h)) in
+      let any : 0 < length available = omega (arith, some) in
+      let rows : x / length available ≤ y / length available = le-div (x / length available) y (length available) any (omega (arith, s, h)) in
       let a = number-is d x is in
       let b = number-is e y js in
       elim (cases_eq (x / length available) (y / length available)) [

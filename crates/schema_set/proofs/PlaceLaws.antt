@@ -46,12 +46,6 @@ place-found [] i b e = absurd (none-some b e)
 place-found (a ∷ others) zero b e = found-here a others (own b) (ap own (same_Some a b e))
 place-found (a ∷ others) (suc i) b e = found-later a others (own b) (place-found others i b e) (same_target (own a) (own b)) refl
 
-pub first-place : (xs : List Available) (a : Available) → slice_get xs 0 ≡ Some a → target_place xs (own_target a.shaped.shapes) ≡ 0
-first-place [] a e = absurd (none-some a e)
-first-place (b ∷ others) a e =
-    let s : same_target (own b) (own a) ≡ true = subst (λ (c : Available). same_target (own b) (own c) ≡ true) (same_Some b a e) (same-itself (own b)) in
-    rw s refl
-
 pub place-le : (xs : List Available) (t : Option (List ℕ)) → target_place xs t ≤ length xs
 place-le [] t = omega arith
 place-le (a ∷ others) t = by (same_target (own a) t) refl (place-le others t)

@@ -13,7 +13,7 @@ use Rattle.schema_set.specs.declared.documents.Available.{Available}
 use Rattle.schema_set.specs.EffectiveSet.{own_target, IsInclusion, IsImport, Says, InSet, first, included, imported, document_at}
 use Rattle.schema_set.specs.Order.{own_target_of, target_place, IsNumber}
 use Rattle.schema_set.specs.inside.Following.{shapes_of, shapes_at, with_place, with_own, next_of, following, Reaches, begins, further}
-use Rattle.schema_set.proofs.PlaceLaws.{first-place, own-read, place-within, place-own}
+use Rattle.schema_set.proofs.PlaceLaws.{own-read, place-within, place-own}
 use Rattle.schema_set.proofs.LocationLaws.{document_at-within}
 
 -- ---- lists
@@ -294,6 +294,11 @@ number-fits count number place some within below few =
     let a : number - 1 < count = omega (arith, some, within) in
     let fits = mul-lt count count (2 ^ 16) (2 ^ 16) few few in
     (mul-add-lt (number - 1) count place count a below, omega (arith, fits))
+
+-- the number of a document with its own target namespace
+pub own_within : (available : List Available) (number : ℕ) → IsNumber available number → length available < 2 ^ 16 → with_own available number < length available * length available
+own_within available number is few =
+    (number-fits (length available) number (target_place available (own_target_of available number)) is.0 is.1 (place-below available number is) few).0
 
 pub square-fits : (n : ℕ) → n < 2 ^ 16 → n * n < 2 ^ 32
 square-fits n few = let fits = mul-lt n n (2 ^ 16) (2 ^ 16) few few in omega (arith, fits)

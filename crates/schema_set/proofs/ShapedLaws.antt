@@ -61,4 +61,4 @@ module _ (inputs : List SchemaInput) (start : ℕ) (none : (f : Fault) → IsSha
       )
 
 pub all-shaped : (inputs : List SchemaInput) (start : ℕ) (set : List SetDocument) → IsSet inputs start set → ((f : Fault) → IsShapeFault inputs start f → ⊥) → All (IsShapedBy inputs) set
-all-shaped inputs set is none = λ k d h. document-shaped inputs none (get_or set k d) (is.0.there k d h) (is.0.only k d h)
+all-shaped inputs start set is none = λ k d h. document-shaped inputs start none (get_or set k d) (is.0.there k d h) (is.0.only k d h)

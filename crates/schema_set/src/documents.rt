@@ -27,7 +27,7 @@ pub struct EffectiveSet<'a> {
     pub documents: Listed<SetDocument<'a>>,
 }
 
-/// The documents that the first one leads to, and the least fault of what they say of others.
+/// The documents that one of them leads to, and the least fault of what they say of others.
 #[derive(Drop)]
 pub struct ClosedSet<'a> {
     pub set: EffectiveSet<'a>,

@@ -44,14 +44,14 @@ fn own_place(sources: &Sources<'_>, number: u32) -> u32
     place
 }
 
-// The number of the document of this place with its own target namespace.
-pub(crate) fn own_number(sources: &Sources<'_>, start: u32) -> u32
+// The number of a document with its own target namespace.
+#[tactic(auto, using(crate::proofs::ReachLaws::own_within))]
+pub(crate) fn own_number(sources: &Sources<'_>, number: u32) -> u32
     requires sources { AreSources sources.now }
-    requires place { start < length sources.now.available.now }
-    ensures number { result ≡ spec.with_own sources.now.available.now (start + 1) }
+    requires number { IsNumber sources.now.available.now number }
+    ensures own { result ≡ spec.with_own sources.now.available.now number }
     ensures within { result < length sources.now.available.now * length sources.now.available.now }
 {
-    let number = start + 1;
     let place = own_place(sources, number);
     with_place(sources.available.len() as u32, place, number)
 }
@@ -63,10 +63,7 @@ fn imported(sources: &Sources<'_>, location: &Text) -> Result<Option<u32>, Alloc
 {
     match sources.find(location.as_str())? {
         None => Ok(None),
-        Some(number) => {
-            let place = own_place(sources, number);
-            Ok(Some(with_place(sources.available.len() as u32, place, number)))
-        },
+        Some(number) => Ok(Some(own_number(sources, number))),
     }
 }
 

@@ -34,7 +34,7 @@ fn spread(sources: &Sources<'_>, start: u32, seen: &mut [bool]) -> Result<(), Al
     ensures reached { OnOk result ((y : ℕ) → (marked seen.new y ≡ true) ↔ Reaches sources.now.available.now start y) }
 {
     let mut todo = Vec::new(sources.alloc);
-    let first = own_number(sources, start);
+    let first = own_number(sources, start + 1);
     todo.push(first)?;
     seen[first as usize] = true;
     while let Some(y) = todo.pop() {

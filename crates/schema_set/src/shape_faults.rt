@@ -1,4 +1,4 @@
-ghost use Rattle.std.specs.Prelude.{◌≡◌, ◌-◌, ◌<◌, List, All, Contains, slice_get};
+ghost use Rattle.std.specs.Prelude.{◌≡◌, ◌-◌, ◌<◌, ℕ, List, All, Contains, slice_get};
 ghost use Rattle.xs_codes.specs.Least.{IsLeast};
 ghost use Rattle.schema_set.specs.Documents as spec;
 ghost use Rattle.schema_set.specs.inside.Reads as inside;

@@ -1,12 +1,12 @@
 -- Elements that are targets of nothing.
-use Rattle.std.proofs.Common.{◌≡◌, ℕ, List, [], ◌∷◌, ◌++◌, Bool, true, false, Option, Some, refl, sym, subst, ◌∙◌}
+use Rattle.std.proofs.Common.{◌≡◌, ℕ, List, [], ◌∷◌, ◌++◌, Bool, true, false, refl, sym, subst, ◌∙◌}
 use Rattle.xs_names.specs.Names.{NameTable}
 use Rattle.xs_components.specs.Tables.{Tables}
 use Rattle.identity_paths.specs.declared.paths.IdentityPaths.{IdentityPaths}
 use Rattle.identity_constraints.specs.Seen.{KeyElement, KeyForest}
 use Rattle.identity_constraints.specs.Targets.{constraints_of, is_target, paths_of}
 use Rattle.path_walk.specs.inside.Walk.{reached}
-use Rattle.scope_targets.specs.Targetings.{Targeting, is_among, targeting_for, targeting_first, targetings_for, targetings_up, targetings_of}
+use Rattle.scope_targets.specs.Targetings.{is_among, targeting_for, targeting_first, targetings_for, targetings_up, targetings_of}
 use Rattle.scope_targets.specs.Kin.{Kin, AreAbove, AreAround, Leaves}
 use Rattle.scope_targets.proofs.Staying.{AreSameScopes, same-above}
 

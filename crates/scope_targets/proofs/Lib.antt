@@ -3,4 +3,4 @@ pub mod Staying
 pub mod Growing
 mod Finding
 mod Upwards
-mod Bare
+pub mod Bare

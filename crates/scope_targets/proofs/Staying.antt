@@ -9,6 +9,13 @@ use Rattle.path_walk.specs.inside.Walk.{reached}
 use Rattle.scope_targets.specs.Targetings.{targetings_for, targetings_up, targetings_of}
 use Rattle.scope_targets.specs.Kin.{Kin, AreSeen, AreAbove, AreAround, IsSameScope, Leaves}
 
+-- scopes above one another are the same
+abbrev pub AreSameScopes : Tables → List KeyElement → List KeyElement → Type 0
+AreSameScopes t [] [] = Unit {0}
+AreSameScopes t [] (b ∷ other) = ⊥
+AreSameScopes t (a ∷ one) [] = ⊥
+AreSameScopes t (a ∷ one) (b ∷ other) = IsSameScope t a b × AreSameScopes t one other
+
 module _ (t : Tables) (old new : Kin) (free steady : ℕ → Type 0) (leaves : Leaves t old new free steady) where
   pub same-below : (ns : List ℕ) (f g : KeyForest) → ((c : ℕ) → Has c ns → free c) → AreSeen old ns f → AreSeen new ns g → g ≡ f
   same-below [] none none off before after = refl
@@ -23,13 +30,7 @@ module _ (t : Tables) (old new : Kin) (free steady : ℕ → Type 0) (leaves : L
       let behind = same-below ns next next2 (λ c h. off c (inr h)) before.1.1 after.1.1 in
       λ i. element (mine i) (under i) (behind i)
 
-  abbrev pub AreSameScopes : List KeyElement → List KeyElement → Type 0
-  AreSameScopes [] [] = Unit {0}
-  AreSameScopes [] (b ∷ other) = ⊥
-  AreSameScopes (a ∷ one) [] = ⊥
-  AreSameScopes (a ∷ one) (b ∷ other) = IsSameScope t a b × AreSameScopes one other
-
-  pub same-above : (o : Option ℕ) (one other : List KeyElement) → ((p : ℕ) → o ≡ Some p → steady p) → AreAbove old o one → AreAbove new o other → AreSameScopes other one
+  pub same-above : (o : Option ℕ) (one other : List KeyElement) → ((p : ℕ) → o ≡ Some p → steady p) → AreAbove old o one → AreAbove new o other → AreSameScopes t other one
   same-above None [] [] stands before after = tt
   same-above None [] (b ∷ other) stands before after = absurd after
   same-above None (a ∷ one) other stands before after = absurd before
@@ -42,7 +43,7 @@ module _ (t : Tables) (old new : Kin) (free steady : ℕ → Type 0) (leaves : L
       )
 
   module _ (names : NameTable) (identities : List IdentityPaths) where
-    same-up : (way : List ℕ) (own : KeyElement) (below : KeyForest) (one other : List KeyElement) → AreSameScopes other one
+    same-up : (way : List ℕ) (own : KeyElement) (below : KeyForest) (one other : List KeyElement) → AreSameScopes t other one
         → targetings_up names t identities way own below other ≡ targetings_up names t identities way own below one
     same-up way own below [] [] same = refl
     same-up way own below [] (b ∷ other) same = absurd same

@@ -1,6 +1,6 @@
 //! What targets are counted by, and which elements are targets as they were.
 
-ghost use Rattle.std.specs.Prelude.{◌≡◌, ◌≤◌, ℕ, List, []};
+ghost use Rattle.std.specs.Prelude.{◌≡◌, ◌≤◌, ℕ, Bool, true, false, List, []};
 ghost use Rattle.xs_names.specs.Names.{Grown, NameTable};
 ghost use Rattle.xs_components.specs.Tables.{Tables};
 ghost use Rattle.identity_paths.specs.declared.paths.IdentityPaths.{IdentityPaths};
@@ -19,15 +19,16 @@ pub fn targetings_are_the_outcomes()
         → uses own.number f ≤ 1 → HasWithin own below f → outcomes_for own.number k (targetings_along names t identities [] f) ≡ outcomes names t identities k own below }
 {}
 
-/// An element that an edit leaves free has what is below it as it was, and is a target as it was, where all elements above it are steady. A steady element that is a target of nothing stays so.
+/// An element that an edit does not touch has what is below it as it was, and is a target as it was, where all elements above it are
+/// steady. A steady element that is a target of nothing stays so.
 pub fn targetings_stay()
-    ensures below { (t : Tables) (old new : Kin) (free steady : ℕ → Type 0) → Leaves t old new free steady
-        → (n : ℕ) → free n → (below new_below : KeyForest) (above new_above : List KeyElement) → AreAround old new n below new_below above new_above → new_below ≡ below }
-    ensures targets { (names : NameTable) (t : Tables) (identities : List IdentityPaths) (old new : Kin) (free steady : ℕ → Type 0) → Leaves t old new free steady
-        → (n : ℕ) → free n → (below new_below : KeyForest) (above new_above : List KeyElement) → AreAround old new n below new_below above new_above
+    ensures below { (t : Tables) (old new : Kin) (touched steady : ℕ → Bool) → Leaves t old new (λ n. touched n ≡ false) (λ n. steady n ≡ true)
+        → (n : ℕ) → touched n ≡ false → (below new_below : KeyForest) (above new_above : List KeyElement) → AreAround old new n below new_below above new_above → new_below ≡ below }
+    ensures targets { (names : NameTable) (t : Tables) (identities : List IdentityPaths) (old new : Kin) (touched steady : ℕ → Bool) → Leaves t old new (λ n. touched n ≡ false) (λ n. steady n ≡ true)
+        → (n : ℕ) → touched n ≡ false → (below new_below : KeyForest) (above new_above : List KeyElement) → AreAround old new n below new_below above new_above
         → targetings_of names t identities new_above (new.seen n) new_below ≡ targetings_of names t identities above (old.seen n) below }
-    ensures bare { (names : NameTable) (t : Tables) (identities : List IdentityPaths) (old new : Kin) (free steady : ℕ → Type 0) → Leaves t old new free steady
-        → (n : ℕ) → steady n → (below new_below : KeyForest) (above new_above : List KeyElement) → AreAround old new n below new_below above new_above
+    ensures bare { (names : NameTable) (t : Tables) (identities : List IdentityPaths) (old new : Kin) (touched steady : ℕ → Bool) → Leaves t old new (λ n. touched n ≡ false) (λ n. steady n ≡ true)
+        → (n : ℕ) → steady n ≡ true → (below new_below : KeyForest) (above new_above : List KeyElement) → AreAround old new n below new_below above new_above
         → targetings_of names t identities above (old.seen n) below ≡ [] → targetings_of names t identities new_above (new.seen n) new_below ≡ [] }
 {}
 

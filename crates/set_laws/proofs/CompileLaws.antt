@@ -60,9 +60,9 @@ module _ (a b : List SetDocument) (xs ys : List (Option ℕ)) (same : map bare a
         attr_groups = pairs.1;
       }
 
-module _ (inputs : List SchemaInput) where
-  first : HasOne (IsFirstOfPhases (phases inputs))
-  first = first-one (phases inputs) (each-one inputs)
+module _ (inputs : List SchemaInput) (start : ℕ) where
+  first : HasOne (IsFirstOfPhases (phases inputs start))
+  first = first-one (phases inputs start) (each-one inputs start)
 
   -- a set that is compiled has no fault
   made-or-broken : (made : CompiledSet) (fault : Fault) → IsCompilation inputs start (Ok made) → IsCompilation inputs start (Err fault) → ⊥
@@ -70,7 +70,7 @@ module _ (inputs : List SchemaInput) where
 
   sets-made-same : (made other : CompiledSet) → IsCompilation inputs start (Ok made) → IsCompilation inputs start (Ok other) → IsSameMade made other
   sets-made-same made other (none, a, xs, set_a, orig_a, p) (none', b, ys, set_b, orig_b, q) =
-      let same = sets-bare inputs a b set_a set_b in
+      let same = sets-bare inputs start a b set_a set_b in
       made-same a b xs ys same (set-originals-same (available inputs) a b xs ys same orig_a orig_b) made other p q
 
   pub compilations-same : (x y : Result CompiledSet Fault) → IsCompilation inputs start x → IsCompilation inputs start y → IsSameCompilation x y

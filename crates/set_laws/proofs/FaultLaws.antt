@@ -31,12 +31,12 @@ input-one number None f e = absurd (none-some f e)
 input-one number (Some input) f e = broken-one number (least_fault (constructs_of input.tree.forest)) f e
 
 pub shape-one : (inputs : List SchemaInput) (start : ℕ) (f : Fault) → IsShapeFault inputs start f → f.phase ≡ 1
-shape-one inputs f is = input-one f.document (slice_get inputs (f.document - 1)) f is.first
+shape-one inputs start f is = input-one f.document (slice_get inputs (f.document - 1)) f is.first
 
 -- phase 2, of composition
 pub composition-two : (sources : List Available) (start : ℕ) (f : Fault) → BreaksComposition sources start f → f.phase ≡ 2
-composition-two sources f (inl is) = is.phase
-composition-two sources f (inr is) = is.phase
+composition-two sources start f (inl is) = is.phase
+composition-two sources start f (inr is) = is.phase
 
 -- phase 3, of names
 pub name-three : (t : NameTable) (origins : List Origin) (reps : List Representation) (originals : List (Option ℕ)) (f : Fault) → IsFault t origins reps originals f → f.phase ≡ 3

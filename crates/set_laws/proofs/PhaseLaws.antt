@@ -119,18 +119,18 @@ in-names set originals f g p q =
     let t = set_table no_names set in
     least-one (IsNameFault t set originals) 3 (name-three (all_names t set originals) (origins t set) (versions t set originals) originals) f g p q
 
-module _ (inputs : List SchemaInput) where
+module _ (inputs : List SchemaInput) (start : ℕ) where
   pub shapes-one : HasOne (shape_phase inputs start)
   unfolding shape_phase
-  shapes-one a b p q = least-one (IsShapeFault inputs start) 1 (shape-one inputs) a b p q
+  shapes-one a b p q = least-one (IsShapeFault inputs start) 1 (shape-one inputs start) a b p q
 
   pub compositions-one : HasOne (composition_phase inputs start)
   unfolding composition_phase
-  compositions-one a b p q = least-one (BreaksComposition (available inputs) start) 2 (composition-two (available inputs)) a b p q
+  compositions-one a b p q = least-one (BreaksComposition (available inputs) start) 2 (composition-two (available inputs) start) a b p q
 
   -- the sets and the originals of two answers are the same
   pub sets-bare : (a b : List SetDocument) → IsSet inputs start a → IsSet inputs start b → map bare a ≡ map bare b
-  sets-bare a b p q = bare-same a b (sets-same inputs a b p q)
+  sets-bare a b p q = bare-same a b (sets-same inputs start a b p q)
 
   module _ (phase : List SetDocument → List (Option ℕ) → Option Fault → Type 0)
       (one : (set : List SetDocument) (originals : List (Option ℕ)) → HasOne (phase set originals))
@@ -160,5 +160,5 @@ module _ (inputs : List SchemaInput) where
   pub later-one : EachHasOne (later_phases inputs start)
   later-one = (compositions-one, (names-one, (bases-one, (simples-one, tt))))
 
-  pub each-one : EachHasOne (phases inputs)
+  pub each-one : EachHasOne (phases inputs start)
   each-one = (shapes-one, later-one)

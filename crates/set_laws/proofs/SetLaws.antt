@@ -1,5 +1,5 @@
 -- The documents of a schema set are determined (Structures 4.2).
-use Rattle.std.proofs.Common.{◌≡◌, inl, inr, List, slice_get, sym, ap, ◌∙◌, arith}
+use Rattle.std.proofs.Common.{◌≡◌, inl, inr, ℕ, List, slice_get, sym, ap, ◌∙◌, arith}
 use Rattle.std.specs.List.{AllZip}
 use Rattle.std.proofs.lemmas.Option.{same_Some}
 use Rattle.std.proofs.lemmas.List.Elements.{All-contains}
@@ -40,12 +40,12 @@ module _ (sources : List Available) where
       let shaped : one.1 ≡ other.1 = same_Some one.1 other.1 (sym one.3 ∙ (ap (slice_get sources) place ∙ other.3)) in
       (number, target, one.4 ∙ (ap (λ (a : Available). a.shaped) shaped ∙ sym other.4))
 
-  among : (a b : List SetDocument) → IsEffectiveSet sources start a → IsEffectiveSet sources start b → AreAmong IsSameDocument a b
-  among a b one other d has =
+  among : (start : ℕ) (a b : List SetDocument) → IsEffectiveSet sources start a → IsEffectiveSet sources start b → AreAmong IsSameDocument a b
+  among start a b one other d has =
       let found = other.each d.number d.target (All-contains (λ (x : SetDocument). InSet sources start x.number x.target) a d one.only has) in
       (found.0, found.1, document-same d found.0 (All-contains (IsDocument sources) a d one.there has) (All-contains (IsDocument sources) b found.0 other.there found.1) (sym found.2) (sym found.3))
 
 pub sets-same : (inputs : List SchemaInput) (start : ℕ) (a b : List SetDocument) → IsSet inputs start a → IsSet inputs start b → AllZip IsSameDocument a b
-sets-same inputs a b one other =
+sets-same inputs start a b one other =
     ordered-same IsSameDocument turned (Precedes (available inputs)) (never (available inputs)) (apart (available inputs)) a b one.1 other.1
-    (among (available inputs) a b one.0 other.0) (among (available inputs) b a other.0 one.0)
+    (among (available inputs) start a b one.0 other.0) (among (available inputs) start b a other.0 one.0)

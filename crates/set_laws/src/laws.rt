@@ -13,7 +13,7 @@ ghost use Rattle.set_laws.specs.Same.{IsSameDocument, IsSameCompilation};
 ghost use Rattle.xs_codes.specs.declared.fault.Fault.{Fault};
 ghost use Rattle.xs_components.specs.Tables.{Tables};
 
-/// The documents of the set that the first one leads to are one list (Structures 4.2).
+/// The documents of the set that one of them leads to are one list (Structures 4.2).
 pub fn the_effective_set_is_one()
     ensures only { (inputs : List SchemaInput) (start : ℕ) (a b : List SetDocument) → IsSet inputs start a → IsSet inputs start b → AllZip IsSameDocument a b }
 {}

@@ -30,7 +30,7 @@ abbrev pub IsPassed : List Available → Version → List Bool → Version → T
 IsPassed available start marks w = (w ≡ start) ⊎ (GoesBack available start w × (marked marks w.document ≡ true))
 
 -- what was passed up to this version: not the start again, and what it goes to was passed, but for that of the last
-pub record IsChain (available : List Available) (start : ℕ) (start : Version) (marks : List Bool) (last : Version) : Type 0 where
+pub record IsChain (available : List Available) (start : Version) (marks : List Bool) (last : Version) : Type 0 where
   pub len : length marks ≡ length available
   pub there : IsPassed available start marks last
   pub apart : (w : Version) → GoesBack available start w → marked marks w.document ≡ true → is_same_version w start ≡ false

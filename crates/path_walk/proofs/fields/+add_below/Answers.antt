@@ -5,6 +5,7 @@ use Rattle.path_walk.specs.Sight.{AreNamed, below_first, seen}
 use Rattle.path_walk.specs.inside.Nodes.{AreAdded}
 use Rattle.path_walk.specs.inside.Walk.{nodes_along, reached, size}
 use Rattle.path_walk.proofs.Adding.{added_none, added_both}
+use Rattle.path_walk.proofs.Ending.{none-along}
 use Rattle.path_walk.proofs.Walking.{along_next, along_done, way_back, way_down, way_all, named_first, named_below, named_behind, size_first}
 use Rattle.path_walk.proofs.fields.+add_below.Goals as goal
 
@@ -86,3 +87,11 @@ returns-clause-nodes g t c =
     let inv = c.left.invariant in
     subst (λ (xs : List FieldNode). AreAdded c.args.set.now.parts.now xs c.args.nodes.now c.left.nodes)
     (sym (along_done (nodes_at names c.args.field.now) c.args.way.now.items (forest c.args.siblings) (forest c.left.left) inv.done c.in_default.ensures inv.all)) inv.added
+
+-- a field that reaches no nodes so far down
+pub returns-then-not-reaches_deeper-clause-nodes : goal.returns-then-not-reaches_deeper-clause-nodes
+returns-then-not-reaches_deeper-clause-nodes g t c =
+    let parts = c.args.set.now.parts.now in
+    let ends = c.reaches_deeper.ensures c.if-not-reaches_deeper.true in
+    let none = none-along c.args.set.now.names.now c.args.field.now c.len-depth.result ends c.args.way.now.items (omega arith) (g.T.KeySiblings.forest c.args.siblings) in
+    subst (λ (xs : List FieldNode). AreAdded parts xs c.args.nodes.now c.args.nodes.now) (sym none) (added_none parts c.args.nodes.now)

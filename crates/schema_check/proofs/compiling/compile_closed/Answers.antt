@@ -5,9 +5,9 @@ use Rattle.schema_check.proofs.CompilationLaws.{composed}
 use Rattle.schema_check.proofs.compiling.compile_closed.Goals as goal
 
 pub returns-in-Some : goal.returns-in-Some
-returns-in-Some c = inl (subst (λ (o : Option Fault). IsComposed c.args.available.now o) c.in-Some.is c.in_ok-found.ensures)
+returns-in-Some c = inl (subst (λ (o : Option Fault). IsComposed c.args.available.now c.args.start o) c.in-Some.is c.in_ok-found.ensures)
 
 pub returns-in-None : goal.returns-in-None
 returns-in-None c =
-    composed c.compile_composed.result c.args.available.now c.args.closed.now.set.documents
-    (subst (λ (o : Option Fault). IsComposed c.args.available.now o) c.in-None.is c.in_ok-found.ensures) c.compile_composed.ensures
+    composed c.compile_composed.result c.args.available.now c.args.start c.args.closed.now.set.documents
+    (subst (λ (o : Option Fault). IsComposed c.args.available.now c.args.start o) c.in-None.is c.in_ok-found.ensures) c.compile_composed.ensures

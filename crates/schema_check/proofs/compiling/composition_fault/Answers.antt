@@ -8,12 +8,10 @@ use Rattle.redefine_faults.specs.Redefinitions.{IsRedefineFault}
 use Rattle.schema_check.specs.inside.Typed.{IsComposed}
 use Rattle.schema_check.proofs.compiling.composition_fault.Goals as goal
 
-pub first_redefine_fault-requires-clause-set : goal.first_redefine_fault-requires-clause-set
-first_redefine_fault-requires-clause-set c =
-    subst (λ (l : List SetDocument). IsEffectiveSet c.args.available.now start l) (sym c.as_slice.ensures) c.requires.set
-
 pub returns : goal.returns
 returns c =
     let available = c.args.available.now in
-    subst (λ (o : Option Fault). IsComposed available o) (sym c.sooner.ensures.sooner)
-    (least-sum (IsCompositionFault available start) (IsRedefineFault available start) c.args.closed.now.fault c.in_ok-found.found c.requires.least c.in_ok-found.ensures.least)
+    let start = c.args.start in
+    let set = subst (λ (l : List SetDocument). IsEffectiveSet available start l) (sym c.as_slice.ensures) c.requires.set in
+    subst (λ (o : Option Fault). IsComposed available start o) (sym c.sooner.ensures.sooner)
+    (least-sum (IsCompositionFault available start) (IsRedefineFault available start) c.args.closed.now.fault c.in_ok-found.found c.requires.least (c.in_ok-found.ensures.least start set))

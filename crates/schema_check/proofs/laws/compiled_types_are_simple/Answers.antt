@@ -7,7 +7,7 @@ returns-clause-set c =
     c.versions_are_shaped.ensures.shaped c.set_types_are_simple.ensures.grown
 
 pub returns-clause-shaped : goal.returns-clause-shaped
-returns-clause-shaped c = λ documents made trees is. shaped-set documents trees made is
+returns-clause-shaped c = λ documents start made trees is. shaped-set documents start trees made is
 
 pub returns-clause-compiled : goal.returns-clause-compiled
 returns-clause-compiled c =

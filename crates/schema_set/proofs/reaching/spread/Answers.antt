@@ -8,13 +8,13 @@ pub loop-y-init : goal.loop-y-init
 loop-y-init c =
     let seen = c.args.seen.now in
     let all = length c.args.sources.now.available.now * length c.args.sources.now.available.now in
-    let first = c.own_number.result in
+    let first = c.own_number-first.result in
     let is : c.push.new.self.items ≡ [] ++ first ∷ [] = c.in_ok-push.ensures.items ∙ ap (λ l. l ++ first ∷ []) c.new-todo.ensures.items in
-    let within : first < length seen = subst (λ n. first < n) (sym c.requires.len) c.own_number.ensures.within in
+    let within : first < length seen = subst (λ n. first < n) (sym c.requires.len) c.own_number-first.ensures.within in
     record {
       len = length-set seen first true ∙ c.requires.len;
-      todo = rw is (All-push (λ y. y < all) [] first (All-nil (λ y. y < all)) c.own_number.ensures.within);
-      reach = reach-begun c.args.sources.now.available.now c.args.start first c.own_number.ensures.number seen c.push.new.self.items c.requires.none within is;
+      todo = rw is (All-push (λ y. y < all) [] first (All-nil (λ y. y < all)) c.own_number-first.ensures.within);
+      reach = reach-begun c.args.sources.now.available.now c.args.start first c.own_number-first.ensures.own seen c.push.new.self.items c.requires.none within is;
     }
 
 pub following-requires-clause-there : goal.following-requires-clause-there
