@@ -8,6 +8,7 @@ ghost use Rattle.component_references.specs.Ranked.{IsRanked};
 ghost use Rattle.subst_groups.specs.Groups as spec;
 ghost use Rattle.subst_groups.specs.inside.Steps.{AreProhibited, IsNext};
 
+use component_tables::BaseLines;
 use xs_components::{Components, Methods, TypeId};
 
 // No methods.
@@ -50,33 +51,45 @@ pub(crate) fn prohibited(parts: &Components, of: &TypeId) -> Methods
     }
 }
 
-// The first type between two, if there is one.
-fn next_between(parts: &Components, sub: &TypeId, base: &TypeId) -> Option<TypeId>
-    requires ranked { IsRanked parts.now }
-    requires there { IsType parts.now sub.now }
-    ensures { MatchOption result ((mid : TypeId) → spec.IsBetween parts.now base.now sub.now mid → ⊥) (λ next. IsNext parts.now base.now sub.now next) }
+// The type above a complex type.
+fn above_complex(parts: &Components, of: &TypeId) -> Option<TypeId>
+    requires there { IsType parts.now of.now }
+    ensures { result ≡ spec.complex_base parts.now of.now }
 {
-    if *sub == *base {
-        return None;
+    match of {
+        TypeId::Complex(id) => Some(parts.complex(*id).base),
+        _ => None,
     }
-    let TypeId::Complex(id) = sub else {
-        return None;
-    };
-    let next = parts.complex(*id).base;
-    if next == *base { None } else { Some(next) }
 }
 
-/// The methods that the types between two prohibit.
-pub(crate) fn between(parts: &Components, sub: &TypeId, base: &TypeId) -> Methods
+/// The methods that the types between two prohibit, where types stand so along their bases.
+pub(crate) fn between(
+    parts: &Components,
+    bases: &BaseLines,
+    sub: &TypeId,
+    base: &TypeId,
+) -> Methods
     requires ranked { IsRanked parts.now }
     requires there { IsType parts.now sub.now }
     ensures { AreProhibited parts.now base.now sub.now result }
 {
     let mut found = no_methods();
-    let mut at = *sub;
-    'up: while let Some(next) = next_between(parts, &at, base) {
-        found = both(found, prohibited(parts, &next));
-        at = next;
+    if *sub == *base {
+        return found;
     }
+    let Some(above) = above_complex(parts, sub) else {
+        return found;
+    };
+    let Some(line) = bases.line(&above) else {
+        return found;
+    };
+    let until = if bases.is_above(base, &above) {
+        bases.line(base)
+    } else {
+        None
+    };
+    let (extension, restriction) = line.prohibited_below(until);
+    found.extension = extension;
+    found.restriction = restriction;
     found
 }

@@ -10,20 +10,26 @@ ghost use Rattle.type_derivation.specs.Within.{AreSimple};
 ghost use Rattle.subst_groups.specs.Groups as spec;
 
 use crate::blocking::{between, both, prohibited};
-use component_tables::Declarations;
+use component_tables::{BaseLines, Declarations};
 use std::alloc::{AllocError, Global};
 use type_derivation::derives;
 use xs_components::{Components, ElementId, Methods, TypeId};
 
 // The methods of derivation that are blocked between a head and an element with these types.
-fn blocked(parts: &Components, disallowed: Methods, sub: &TypeId, base: &TypeId) -> Methods
+fn blocked(
+    parts: &Components,
+    bases: &BaseLines,
+    disallowed: Methods,
+    sub: &TypeId,
+    base: &TypeId,
+) -> Methods
     requires ranked { IsRanked parts.now }
     requires sub_there { IsType parts.now sub.now }
     requires base_there { IsType parts.now base.now }
     ensures blocked { (head element : ℕ) → spec.disallowed parts.now head ≡ disallowed → type_of parts.now head ≡ base.now → type_of parts.now element ≡ sub.now → spec.AreBlocked parts.now head element result }
 {
     let own = both(disallowed, prohibited(parts, base));
-    both(own, between(parts, sub, base))
+    both(own, between(parts, bases, sub, base))
 }
 
 /// Whether an element may stand for a head (Structures 3.3.6, Substitution Group OK).
@@ -47,6 +53,7 @@ pub(crate) fn may_stand(
     }
     let base = declarations.type_of(head);
     let sub = declarations.type_of(element);
-    let blocked = blocked(parts, disallowed, &sub, &base);
-    derives(alloc, parts, sub, base, &blocked)
+    let bases = declarations.bases();
+    let blocked = blocked(parts, bases, disallowed, &sub, &base);
+    derives(alloc, parts, bases, sub, base, &blocked)
 }
