@@ -78,7 +78,7 @@ fn simple_code(
     requires base { IsType set.now.parts.now base.now }
     ensures first { IfOk result (IsFirstCode (spec.BreaksSimple set.now.parts.now base.now content own)) }
 {
-    let derived = is_text_derived(alloc, set.parts, own, *base)?;
+    let derived = is_text_derived(alloc, set.parts, set.bases, own, *base)?;
     let emptiable = has_emptiable_model(set.parts, set.ranges, base);
     let other = is_other(content, derived, emptiable);
     Ok(when(other, Code::DerivationOkRestriction5_2))

@@ -9,6 +9,7 @@ ghost use Rattle.derive_restriction.specs.Contents as spec;
 
 use crate::types::{derives_type, derives_type_member};
 use std::alloc::{AllocError, Global};
+use component_tables::BaseLines;
 use xs_components::{ComplexType, Components, ContentForm, TypeId};
 
 /// The simple type that a text is of: a type of the schema, or a restriction of one, which has no name (Structures 3.4.2).
@@ -104,6 +105,7 @@ pub(crate) fn text_type(parts: &Components, of: TypeId) -> Option<TextType>
 fn derives_from(
     alloc: Global,
     parts: &Components,
+    bases: &BaseLines,
     own: TypeId,
     text: TextType,
 ) -> Result<bool, AllocError>
@@ -116,7 +118,7 @@ fn derives_from(
     if text.is_restricted {
         derives_type_member(alloc, parts, own, text.of)
     } else {
-        derives_type(alloc, parts, own, text.of)
+        derives_type(alloc, parts, bases, own, text.of)
     }
 }
 
@@ -124,6 +126,7 @@ fn derives_from(
 fn derives_text(
     alloc: Global,
     parts: &Components,
+    bases: &BaseLines,
     own: TypeId,
     base: TypeId,
 ) -> Result<bool, AllocError>
@@ -136,7 +139,7 @@ fn derives_text(
 {
     match text_type(parts, base) {
         None => Ok(false),
-        Some(text) => derives_from(alloc, parts, own, text),
+        Some(text) => derives_from(alloc, parts, bases, own, text),
     }
 }
 
@@ -144,6 +147,7 @@ fn derives_text(
 pub(crate) fn is_text_derived(
     alloc: Global,
     parts: &Components,
+    bases: &BaseLines,
     own: Option<TypeId>,
     base: TypeId,
 ) -> Result<bool, AllocError>
@@ -156,6 +160,6 @@ pub(crate) fn is_text_derived(
 {
     match own {
         None => Ok(true),
-        Some(own) => derives_text(alloc, parts, own, base),
+        Some(own) => derives_text(alloc, parts, bases, own, base),
     }
 }

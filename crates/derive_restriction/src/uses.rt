@@ -69,7 +69,7 @@ fn both_code(
         (Some (spec.declared own.now)) (Some (spec.declared base.now)))) }
     ensures same { types.new ≡ types.old }
 {
-    let derived = derives_type(alloc, set.parts, own.decl.of, base.decl.of)?;
+    let derived = derives_type(alloc, set.parts, set.bases, own.decl.of, base.decl.of)?;
     let constraint = effective(own.part, own.decl);
     let base_constraint = effective(base.part, base.decl);
     let lost = loses_fixed(
