@@ -6,6 +6,7 @@ ghost use Rattle.component_references.specs.Ranked.{IsRanked};
 ghost use Rattle.type_derivation.specs.Within.{AreSimple};
 ghost use Rattle.elem_governing.specs.Derived as spec;
 
+use component_tables::BaseLines;
 use std::alloc::{AllocError, Global};
 use type_derivation::derives;
 use xs_components::{Components, Methods, TypeId};
@@ -14,6 +15,7 @@ use xs_components::{Components, Methods, TypeId};
 pub(crate) fn is_derived(
     alloc: Global,
     parts: &Components,
+    bases: &BaseLines,
     sub: TypeId,
     base: TypeId,
     excluded: &Methods,
@@ -24,5 +26,5 @@ pub(crate) fn is_derived(
     requires base { IsType parts.now base }
     ensures tested { IfOk result (λ answer. answer ≡ spec.derives parts.now excluded.now sub base) }
 {
-    derives(alloc, parts, sub, base, excluded)
+    derives(alloc, parts, bases, sub, base, excluded)
 }
