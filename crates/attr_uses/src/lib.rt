@@ -15,6 +15,7 @@ mod store;
 mod tables;
 mod wildcards;
 
+pub use own::uses_in;
 pub use entry::{Entry, UseAt, UseHolder};
 pub use join::Join;
 pub use maps::{UseMap, UseMaps};

@@ -14,8 +14,8 @@ use xs_codes::{Code, Fault};
 use xs_components::{AttrGroupId, AttrUse, Components, Place, Wildcard};
 use xs_names::NameId;
 
-// The attribute uses that are written in a component.
-pub(crate) fn uses_in(parts: &Components, holder: UseHolder) -> &[AttrUse]
+/// The attribute uses that are written in a component.
+pub fn uses_in(parts: &Components, holder: UseHolder) -> &[AttrUse]
     ensures { result.now ≡ (own_parts parts.now holder).uses }
 {
     match holder {

@@ -6,7 +6,8 @@ ghost use Rattle.attr_uses.specs.declared.entry.Entry.{Entry};
 
 use crate::grow::half_of;
 use crate::node::{Node, node_of};
-use crate::{Entry, UseMap, UseMaps};
+use crate::{Entry, UseAt, UseMap, UseMaps};
+use std::alloc::{AllocError, Global};
 
 impl UseMaps {
     /// What a map has for a name.
@@ -39,6 +40,13 @@ impl UseMaps {
         ensures next { (has : ℕ → Option Entry) → IsMapOf self.now map.top has → IsNext self.now.depth has from result }
     {
         next_under(&self.nodes, self.depth, map.top, from)
+    }
+
+    /// The names whose first use is needed, the least first, each with that use.
+    pub fn needed(&self, alloc: Global, map: UseMap) -> Result<Vec<(u32, UseAt)>, AllocError> {
+        let mut needed = Vec::new(alloc);
+        needed_under(&self.nodes, self.depth, map.top, 0, &mut needed)?;
+        Ok(needed)
     }
 
     /// The next name, from this number on, for which two maps may have different entries: they have the same for each name that
@@ -100,6 +108,30 @@ fn next_under(nodes: &[Node], levels: u32, at: u32, from: u32) -> Option<u32>
         Some(name) => Some(name),
         None => beyond(half, next_under(nodes, levels - 1, right, 0)),
     }
+}
+
+// Puts the needed names below a node of so many levels, the least first, with their first uses.
+fn needed_under(
+    nodes: &[Node],
+    levels: u32,
+    at: u32,
+    from: u32,
+    needed: &mut Vec<(u32, UseAt)>,
+) -> Result<(), AllocError> {
+    let node = node_of(nodes, at);
+    if !node.sum().needed {
+        return Ok(());
+    }
+    if levels == 0 {
+        if let Some(entry) = node.entry() {
+            needed.push((from, entry.first))?;
+        }
+        return Ok(());
+    }
+    let half = half_of(levels - 1);
+    let (left, right) = node.sides();
+    needed_under(nodes, levels - 1, left, from, needed)?;
+    needed_under(nodes, levels - 1, right, from + half, needed)
 }
 
 // The next name from this number on for which two parts of so many levels may have different entries.

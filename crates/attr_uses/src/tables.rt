@@ -129,6 +129,11 @@ impl AttrTables {
         self.store.maps.next_needed(table.uses, from)
     }
 
+    /// The names whose first use is required or has a value constraint, by their numbers, each with that use.
+    pub fn needed(&self, alloc: Global, table: KeptTable) -> Result<Vec<(u32, UseAt)>, AllocError> {
+        self.store.maps.needed(alloc, table.uses)
+    }
+
     /// The next number of a name, from this one on, for which two tables may have different first uses: they have the same for
     /// each name that is passed over. What the tables share is passed over whole.
     pub fn next_unlike(&self, one: KeptTable, other: KeptTable, from: u32) -> Option<u32>
