@@ -9,19 +9,17 @@ ghost use Rattle.attr_assess.specs.Types.{IsTypeSet};
 ghost use Rattle.attr_assess.specs.Assessed.{AreAttrsAssessed, IsGivenJudged};
 ghost use Rattle.attr_assess.specs.inside.Lists.{Holds, HoldsEach, HoldsLacking, IsUseJudged};
 
-use crate::{
-    AddedUse, AttrGoverning, AttrItem, AttrSchema, JudgedAttr, Lacking, judge, lacking_attrs,
-};
-use assess_records::{AttrRecords, NamedText, ValueSource};
+use crate::{AttrItem, AttrSchema, JudgedAttr, KnownUse, Lacking, judge, lacking_attrs};
+use assess_records::{AttrRecord, AttrRecords, BackShared, NamedText, Shared, ValueSource};
 use simple_types::SimpleTypes;
 use simple_values::Value;
 use std::alloc::{AllocError, Global};
-use xs_components::{Components, NameIdList, TypeId};
+use xs_components::{NameIdList, TypeId};
 use xs_lists::Listed;
 use xs_names::Scope;
 
 /// The values of an element's attributes, place by place; `None` where the text is not valid, or is not assessed.
-pub type AttrValues = Listed<Option<Value>>;
+pub type AttrValues = BackShared<Option<Value>>;
 
 /// What is found out about an element's attributes.
 #[derive(Drop)]
@@ -57,23 +55,51 @@ pub fn assess_attrs(
     ensures assessed { IfOk result (AreAttrsAssessed schema.now.names.now schema.now.parts.now of scope.now attrs.now) }
     ensures same { types.new ≡ types.old }
 {
-    let mut assessed = AssessedAttrs::new(alloc);
-    match assessed.add_all(alloc, schema, types, &of, attrs, scope) {
-        Ok(()) => Ok(assessed),
+    let mut found = FoundAttrs::new(alloc);
+    match found.add_all(alloc, schema, types, &of, attrs, scope) {
+        Ok(()) => Ok(found.joined()),
         Err(error) => Err(error),
     }
 }
 
-impl AssessedAttrs {
-    fn new(alloc: Global) -> AssessedAttrs
+// What is found out, those that are added apart.
+#[derive(Drop)]
+struct FoundAttrs {
+    records: Listed<AttrRecord>,
+    values: Listed<Option<Value>>,
+    added_records: Listed<Shared<AttrRecord>>,
+    added_values: Listed<Shared<Option<Value>>>,
+    missing: NameIdList,
+}
+
+impl FoundAttrs {
+    fn new(alloc: Global) -> FoundAttrs
         ensures records { result.records ≡ [] }
         ensures values { result.values ≡ [] }
         ensures missing { result.missing ≡ [] }
     {
-        AssessedAttrs {
-            records: AttrRecords::new(alloc),
-            values: AttrValues::new(alloc),
+        FoundAttrs {
+            records: Listed::new(alloc),
+            values: Listed::new(alloc),
+            added_records: Listed::new(alloc),
+            added_values: Listed::new(alloc),
             missing: NameIdList::new(alloc),
+        }
+    }
+
+    // Both in one list.
+    fn joined(self) -> AssessedAttrs {
+        let FoundAttrs {
+            records,
+            values,
+            added_records,
+            added_values,
+            missing,
+        } = self;
+        AssessedAttrs {
+            records: AttrRecords::joined(records, added_records),
+            values: AttrValues::joined(values, added_values),
+            missing,
         }
     }
 
@@ -101,7 +127,7 @@ impl AssessedAttrs {
         self.add_given(alloc, schema, types, of, attrs, scope)?;
         match of {
             None => Ok(()),
-            Some(of) => self.add_lacking(alloc, schema, types, of, attrs),
+            Some(of) => self.add_lacking(alloc, schema, of, attrs),
         }
     }
 
@@ -110,7 +136,6 @@ impl AssessedAttrs {
         &mut self,
         alloc: Global,
         schema: &AttrSchema<'_>,
-        types: &mut SimpleTypes,
         of: &TypeId,
         attrs: &[NamedText],
     ) -> Result<(), AllocError>
@@ -123,7 +148,7 @@ impl AssessedAttrs {
     {
         let Lacking { missing, added } = lacking_attrs(alloc, schema, *of, attrs)?;
         self.missing = missing;
-        self.add_uses(alloc, schema.parts, types, added.as_slice())
+        self.add_uses(added.as_slice())
     }
 
     // Adds the attributes that the element has.
@@ -157,31 +182,13 @@ impl AssessedAttrs {
         Ok(())
     }
 
-    // Adds the attributes of uses, with the texts of their constraints.
-    fn add_uses(
-        &mut self,
-        alloc: Global,
-        parts: &Components,
-        types: &mut SimpleTypes,
-        uses: &[AddedUse<'_>],
-    ) -> Result<(), AllocError>
-        requires types { IsTypeSet parts.now types.old }
-        ensures held { OnOk result (HoldsEach (IsUseJudged parts.now) uses.now self.old self.new) }
-        ensures same { types.new ≡ types.old }
-    {
-        for added in uses {
-            let item = AttrItem {
-                name: added.name,
-                source: ValueSource::Schema,
-                scope: &added.constraint.scope,
-                text: added.constraint.text.as_str(),
-            };
-            let governing = AttrGoverning::Declared {
-                attribute: added.attribute,
-                by: Some(added.at),
-            };
-            let judged = judge(alloc, parts, types, &item, governing)?;
-            self.push(judged)?;
+    // Adds the attributes of uses.
+    fn add_uses(&mut self, uses: &[&KnownUse]) -> Result<(), AllocError> {
+        for known in uses {
+            if let Some(added) = &known.added {
+                self.added_records.push(added.known.try_clone()?)?;
+                self.added_values.push(added.value.try_clone()?)?;
+            }
         }
         Ok(())
     }

@@ -12,11 +12,9 @@ ghost use Rattle.attr_assess.specs.Lacking as spec;
 ghost use Rattle.attr_assess.specs.Added.{AreNamed, AreLacking};
 ghost use Rattle.attr_assess.specs.inside.Uses as inside;
 
-use crate::AttrSchema;
-use crate::added::{AddedUse, sort_by_name};
-use crate::found::found_use;
+use crate::{AttrSchema, KnownUse};
 use assess_records::NamedText;
-use attr_uses::{AttrTables, KeptTable};
+use attr_uses::KeptTable;
 use std::alloc::{AllocError, Global};
 use xs_components::{NameIdList, TypeId};
 use xs_lists::Listed;
@@ -27,7 +25,7 @@ use xs_names::NameId;
 #[derive(Drop)]
 pub struct Lacking<'a> {
     pub missing: NameIdList,
-    pub added: Listed<AddedUse<'a>>,
+    pub added: Listed<&'a KnownUse>,
 }
 
 /// What an element of a type with these attributes lacks.
@@ -51,7 +49,7 @@ pub fn lacking_attrs<'a>(
         Some(table) => {
             let Lacking { missing, added } = lacking_in(alloc, schema, &table, given)?;
             let mut uses = added.into_vec();
-            sort_by_name(&mut uses)?;
+            uses.sort_by_key(|known| known.order)?;
             Ok(Lacking {
                 missing,
                 added: Listed::from_vec(uses),
@@ -66,32 +64,14 @@ fn lacking_in<'a>(
     schema: &AttrSchema<'a>,
     table: &KeptTable,
     given: &[NamedText],
-) -> Result<Lacking<'a>, AllocError>
-    requires store { IsStore schema.now.tables.now.store }
-    requires named { AreNamed schema.now.names.now schema.now.parts.now }
-    requires table { (ids : List Bool) × (value : AttrUses) × StandsFor schema.now.parts.now ids schema.now.tables.now.store table.now value }
-    ensures lacking { (ids : List Bool) (value : AttrUses) → StandsFor schema.now.parts.now ids schema.now.tables.now.store table.now value → IfOk result (inside.AreLackingBelow schema.now.names.now schema.now.parts.now value.uses given.now (2 ^ 32)) }
-{
+) -> Result<Lacking<'a>, AllocError> {
     let mut lacking = Lacking::new(alloc);
-    let mut next = schema.tables.next_needed(*table, 0);
-    while let Some(number) = next {
-        lacking.note(schema, table, given, number)?;
-        next = next_after(schema.tables, table, number);
+    for (_, at) in &schema.tables.needed(alloc, *table)? {
+        if let Some(known) = schema.known.at(*at) {
+            lacking.note(known, given)?;
+        }
     }
     Ok(lacking)
-}
-
-// The next number of a name behind this one whose use is required or has a value constraint.
-fn next_after(tables: &AttrTables, table: &KeptTable, number: u32) -> Option<u32>
-    requires store { IsStore tables.now.store }
-    requires table { (t : Tables) × (ids : List Bool) × (value : AttrUses) × StandsFor t ids tables.now.store table.now value }
-    ensures next { (t : Tables) (ids : List Bool) (value : AttrUses) → StandsFor t ids tables.now.store table.now value → IsNext t value.uses (number + 1) result }
-{
-    if number < u32::MAX {
-        tables.next_needed(*table, number + 1)
-    } else {
-        None
-    }
 }
 
 impl<'a> Lacking<'a> {
@@ -105,33 +85,18 @@ impl<'a> Lacking<'a> {
         }
     }
 
-    // Adds the name of a number, if the element lacks it.
-    fn note(
-        &mut self,
-        schema: &AttrSchema<'a>,
-        table: &KeptTable,
-        given: &[NamedText],
-        number: u32,
-    ) -> Result<(), AllocError>
-        requires store { IsStore schema.now.tables.now.store }
-        requires named { AreNamed schema.now.names.now schema.now.parts.now }
-        requires table { (ids : List Bool) × (value : AttrUses) × StandsFor schema.now.parts.now ids schema.now.tables.now.store table.now value }
-        ensures missing { (ids : List Bool) (value : AttrUses) → StandsFor schema.now.parts.now ids schema.now.tables.now.store table.now value → OnOk result (self.new.missing ≡ self.old.missing ++ inside.picked (spec.is_missing schema.now.parts.now value.uses given.now number) number) }
-        ensures added { (ids : List Bool) (value : AttrUses) → StandsFor schema.now.parts.now ids schema.now.tables.now.store table.now value → OnOk result (inside.IsNoted schema.now.names.now schema.now.parts.now value.uses given.now number self.old.added self.new.added) }
-    {
-        let Some(found) = found_use(schema, table, number) else {
-            return Ok(());
-        };
-        let name = found.decl.name;
-        if has_name(given, name) {
+    // Adds the name of a use, if the element lacks it.
+    fn note(&mut self, known: &'a KnownUse, given: &[NamedText]) -> Result<(), AllocError> {
+        if has_name(given, known.name) {
             return Ok(());
         }
-        if found.part.required {
-            return self.missing.push(name);
+        if known.required {
+            return self.missing.push(known.name);
         }
-        match found.added(schema) {
-            Some(added) => self.added.push(added),
-            None => Ok(()),
+        if known.added.is_some() {
+            self.added.push(known)
+        } else {
+            Ok(())
         }
     }
 }

@@ -1,5 +1,6 @@
 //! What the attributes of elements are assessed by.
 
+use crate::KnownUses;
 use attr_uses::AttrTables;
 use component_tables::ComponentNames;
 use xs_components::Components;
@@ -13,4 +14,5 @@ pub struct AttrSchema<'a> {
     pub parts: &'a Components,
     pub tops: &'a ComponentNames,
     pub tables: &'a AttrTables,
+    pub known: &'a KnownUses,
 }
