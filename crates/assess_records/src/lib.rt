@@ -13,4 +13,5 @@ pub use instance_names::{
 };
 pub use outcome::{Attempted, Validity, ValueSource};
 pub use record::{AttrRecord, AttrRecords, Codes, ElementRecord};
+pub use shared_lists::{BackShared, Shared};
 pub use shape::{ElementShape, NamedText, NamedTextList};

@@ -1,6 +1,7 @@
 use crate::{Attempted, Validity, ValueSource};
 use xs_codes::Found;
 use xs_components::TypeId;
+use shared_lists::BackShared;
 use xs_lists::Listed;
 use xs_names::NameId;
 
@@ -32,4 +33,4 @@ pub struct AttrRecord {
 }
 
 /// The records of an element's attributes: the given ones in document order, then those that the schema adds.
-pub type AttrRecords = Listed<AttrRecord>;
+pub type AttrRecords = BackShared<AttrRecord>;

@@ -5,5 +5,6 @@ mod compiled;
 mod laws;
 mod models;
 
+pub use attr_assess::KnownUses;
 pub use compiled::Compiled;
 pub use laws::usable_with_more_names;

@@ -8,6 +8,7 @@ mod outcomes;
 mod records;
 mod texts;
 
+pub use attr_assess::{AttrValues, KnownUses};
 pub use content_laws::{simple_contents_are_read, simple_types_are_simple_trees};
 pub use judged::{JudgedElement, judge_element};
 pub use laws::codes_of_ids_stand_last;

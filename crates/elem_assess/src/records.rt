@@ -11,7 +11,7 @@ ghost use Rattle.elem_assess.specs.Set.{IsWithin};
 
 use crate::judge_element;
 use assess_records::{AttrRecords, ElementRecord, ElementShape, InstanceAttribute, instance_text};
-use attr_assess::{AttrSchema, AttrValues, assess_attrs};
+use attr_assess::{AttrSchema, AttrValues, KnownUses, assess_attrs};
 use attr_uses::AttrTables;
 use component_tables::ContentTypes;
 use elem_codes::{ElementInput, ElementSource};
@@ -25,6 +25,7 @@ use std::alloc::{AllocError, Global};
 pub struct AssessSet<'a> {
     pub view: SchemaView<'a>,
     pub tables: &'a AttrTables,
+    pub known: &'a KnownUses,
     pub contents: &'a ContentTypes,
 }
 
@@ -87,6 +88,7 @@ pub fn local(
         parts: set.view.parts,
         tops: set.view.named,
         tables: set.tables,
+        known: set.known,
     };
     let attributes = assess_attrs(
         alloc,
@@ -105,7 +107,7 @@ pub fn local(
         governing: of,
         said: &said,
         shape,
-        attrs: attributes.records.as_slice(),
+        attrs: &attributes.records,
         missing: attributes.missing.as_slice(),
     };
     let judged = judge_element(alloc, source, types, input)?;

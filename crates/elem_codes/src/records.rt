@@ -5,7 +5,7 @@ ghost use Rattle.std.specs.List.{list_any, list_all};
 ghost use Rattle.assess_records.specs.declared.record.AttrRecord.{AttrRecord};
 ghost use Rattle.elem_codes.specs.Records as spec;
 
-use assess_records::{Attempted, AttrRecord, ChildCounts, Codes, Validity};
+use assess_records::{Attempted, AttrRecords, ChildCounts, Codes, Validity};
 
 fn is_invalid(validity: Validity) -> bool
     ensures { result ≡ spec.is_invalid validity }
@@ -37,34 +37,55 @@ fn is_untried(attempted: Attempted) -> bool
     }
 }
 
-fn is_any_invalid(attrs: &[AttrRecord]) -> bool
+fn is_any_invalid(attrs: &AttrRecords) -> bool
     ensures { result ≡ list_any (λ (a : AttrRecord). spec.is_invalid a.validity) attrs.now }
 {
-    attrs.iter().any(|a| is_invalid(a.validity))
+    let mut index = 0;
+    while let Some(a) = attrs.get(index) {
+        if is_invalid(a.validity) {
+            return true;
+        }
+        index += 1;
+    }
+    false
 }
 
 /// Whether an attribute or a child element is invalid.
-pub(crate) fn any_invalid(attrs: &[AttrRecord], counts: &ChildCounts) -> bool
+pub(crate) fn any_invalid(attrs: &AttrRecords, counts: &ChildCounts) -> bool
     ensures { result ≡ spec.any_invalid attrs.now counts.now }
 {
     let invalid = is_any_invalid(attrs);
     invalid || counts.invalid != 0
 }
 
-fn are_full(attrs: &[AttrRecord]) -> bool
+fn are_full(attrs: &AttrRecords) -> bool
     ensures { result ≡ list_all (λ (a : AttrRecord). spec.is_full a.attempted) attrs.now }
 {
-    attrs.iter().all(|a| is_full(a.attempted))
+    let mut index = 0;
+    while let Some(a) = attrs.get(index) {
+        if !is_full(a.attempted) {
+            return false;
+        }
+        index += 1;
+    }
+    true
 }
 
-fn are_untried(attrs: &[AttrRecord]) -> bool
+fn are_untried(attrs: &AttrRecords) -> bool
     ensures { result ≡ list_all (λ (a : AttrRecord). spec.is_untried a.attempted) attrs.now }
 {
-    attrs.iter().all(|a| is_untried(a.attempted))
+    let mut index = 0;
+    while let Some(a) = attrs.get(index) {
+        if !is_untried(a.attempted) {
+            return false;
+        }
+        index += 1;
+    }
+    true
 }
 
 // Whether all attributes and child elements were assessed in full.
-fn all_full(attrs: &[AttrRecord], counts: &ChildCounts) -> bool
+fn all_full(attrs: &AttrRecords, counts: &ChildCounts) -> bool
     ensures { result ≡ spec.all_full attrs.now counts.now }
 {
     let full = are_full(attrs);
@@ -72,7 +93,7 @@ fn all_full(attrs: &[AttrRecord], counts: &ChildCounts) -> bool
 }
 
 // Whether none of them was assessed at all.
-fn all_untried(attrs: &[AttrRecord], counts: &ChildCounts) -> bool
+fn all_untried(attrs: &AttrRecords, counts: &ChildCounts) -> bool
     ensures { result ≡ spec.all_untried attrs.now counts.now }
 {
     let untried = are_untried(attrs);
@@ -97,7 +118,7 @@ pub(crate) fn validity_of(codes: &Codes, strictly: bool, below: bool) -> Validit
 }
 
 /// [validation attempted], by whether the element is strictly assessed, and by what is below it.
-pub(crate) fn attempted_of(strictly: bool, attrs: &[AttrRecord], counts: &ChildCounts) -> Attempted
+pub(crate) fn attempted_of(strictly: bool, attrs: &AttrRecords, counts: &ChildCounts) -> Attempted
     ensures { result ≡ spec.attempted_of strictly attrs.now counts.now }
 {
     if strictly {

@@ -10,6 +10,7 @@ mod tuple;
 
 pub use id_table::IdTable;
 pub use key_tables::KeyTables;
+pub use shared_lists::BackShared;
 pub use role::{IdRole, role_of};
 pub use table::DocumentIds;
 pub use tuple::Tuple;

@@ -10,7 +10,7 @@ use crate::Outcome;
 use crate::finding::Faultless;
 use crate::judging::judge;
 use crate::laws::compiled_parts_are_fit;
-use compiled_schema::Compiled;
+use compiled_schema::{Compiled, KnownUses};
 use derive_faults::faultless_types_have_uses;
 use schema_check::CompiledSet;
 use schema_set::SchemaInput;
@@ -18,7 +18,7 @@ use std::alloc::{AllocError, Global};
 use xs_codes::Fault;
 
 // A set with what was found of it.
-fn joined(set: CompiledSet, whole: Faultless) -> Compiled
+fn joined(set: CompiledSet, whole: Faultless, known_uses: KnownUses) -> Compiled
     ensures { result ≡ inside.joined set whole }
 {
     let found = whole.found;
@@ -31,6 +31,7 @@ fn joined(set: CompiledSet, whole: Faultless) -> Compiled
         declarations: found.declarations,
         named: found.named,
         attr_uses: found.attr_uses,
+        known_uses,
         contents: found.contents,
         models: whole.models,
         identities: whole.identities,
@@ -38,15 +39,22 @@ fn joined(set: CompiledSet, whole: Faultless) -> Compiled
 }
 
 // What a set comes to.
-fn outcome_of(set: CompiledSet, judged: Result<Faultless, Fault>) -> Outcome
+fn outcome_of(
+    alloc: Global,
+    mut set: CompiledSet,
+    judged: Result<Faultless, Fault>,
+) -> Result<Outcome, AllocError>
     requires fit { IsFit set }
     requires judged { inside.IsJudged set judged }
     ensures { spec.IsSetOutcome set result }
 {
     faultless_types_have_uses();
     match judged {
-        Ok(whole) => Outcome::Accepted(joined(set, whole)),
-        Err(fault) => Outcome::Broken(fault),
+        Ok(whole) => {
+            let known = KnownUses::of(alloc, &set.names, &set.parts, &mut set.types)?;
+            Ok(Outcome::Accepted(joined(set, whole, known)))
+        }
+        Err(fault) => Ok(Outcome::Broken(fault)),
     }
 }
 
@@ -56,7 +64,7 @@ fn complete(alloc: Global, mut set: CompiledSet) -> Result<Outcome, AllocError>
     ensures { IfOk result (spec.IsSetOutcome set) }
 {
     match judge(alloc, &mut set) {
-        Ok(judged) => Ok(outcome_of(set, judged)),
+        Ok(judged) => outcome_of(alloc, set, judged),
         Err(error) => Err(error),
     }
 }
