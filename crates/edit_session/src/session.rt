@@ -206,7 +206,7 @@ fn records_of(found: &ElementEntry) -> Records<'_>
 {
     Records {
         element: &found.element,
-        attrs: found.attrs.as_slice(),
+        attrs: &found.attrs,
     }
 }
 

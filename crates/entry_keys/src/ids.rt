@@ -17,7 +17,7 @@ pub(crate) fn id_codes(alloc: Global, entries: &[ElementEntry]) -> Result<Listed
     let mut ids = DocumentIds::new(alloc)?;
     for entry in entries {
         ids.add_value(entry.bearer, &entry.value)?;
-        ids.add_values(entry.number, entry.attr_values.as_slice())?;
+        ids.add_values(entry.number, &entry.attr_values)?;
     }
     ids.codes(alloc)
 }

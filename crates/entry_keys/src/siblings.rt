@@ -37,8 +37,8 @@ pub(crate) fn by_first<'a>(entries: &'a [ElementEntry]) -> Option<Parted<'a>>
 fn sight_of<'a>(own: &'a ElementEntry) -> KeySight<'a>
     ensures { sight.seen result ≡ seen_element (entry_of own.now) }
 {
-    let attrs = own.attrs.as_slice();
-    let attr_values = own.attr_values.as_slice();
+    let attrs = &own.attrs;
+    let attr_values = &own.attr_values;
     KeySight {
         number: own.number,
         name: own.element.name,

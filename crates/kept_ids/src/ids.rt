@@ -6,7 +6,7 @@ ghost use Rattle.identity_tables.specs.Ids.{BorneAtom};
 ghost use Rattle.identity_tables.specs.Table.{IsTableOf, IsGrown};
 ghost use Rattle.kept_ids.specs.Counted.{HasCounted};
 
-use identity_tables::{IdRole, IdTable, role_of};
+use identity_tables::{BackShared, IdRole, IdTable, role_of};
 use simple_values::{Atom, TypedAtom, Value};
 use std::alloc::{AllocError, Global};
 use std::marker::Model;
@@ -62,11 +62,13 @@ impl KeptIds {
     /// # Errors
     ///
     /// As those of `add_value`.
-    pub fn add_values(&mut self, bearer: u32, values: &[Option<Value>]) -> Result<(), AllocError>
+    pub fn add_values(&mut self, bearer: u32, values: &BackShared<Option<Value>>) -> Result<(), AllocError>
         ensures { OnOk result ((atoms : List BorneAtom) → IsTableOf self.old atoms → IsTableOf self.new (atoms ++ spec.borne_in_all bearer values.now)) }
     {
-        for value in values {
+        let mut index = 0;
+        while let Some(value) = values.get(index) {
             self.add_value(bearer, value)?;
+            index += 1;
         }
         Ok(())
     }
@@ -83,12 +85,14 @@ impl KeptIds {
     }
 
     /// Drops the IDs and references in the values of an element's attributes, which were added for it. It takes no memory.
-    pub fn drop_values(&mut self, bearer: u32, values: &[Option<Value>])
+    pub fn drop_values(&mut self, bearer: u32, values: &BackShared<Option<Value>>)
         requires { (atoms : List BorneAtom) × IsTableOf self.old (spec.borne_in_all bearer values.now ++ atoms) }
         ensures { (atoms : List BorneAtom) → IsTableOf self.old (spec.borne_in_all bearer values.now ++ atoms) → IsTableOf self.new atoms }
     {
-        for value in values {
+        let mut index = 0;
+        while let Some(value) = values.get(index) {
             self.drop_value(bearer, value);
+            index += 1;
         }
     }
 

@@ -41,7 +41,7 @@ impl Books {
         self.total = sum_of(self.total, found)?;
         self.ids.add_value(found.bearer, &found.value)?;
         self.ids
-            .add_values(found.number, found.attr_values.as_slice())?;
+            .add_values(found.number, &found.attr_values)?;
         Ok(())
     }
 
@@ -55,7 +55,7 @@ impl Books {
         self.total = rest_of(self.total, found);
         self.ids.drop_value(found.bearer, &found.value);
         self.ids
-            .drop_values(found.number, found.attr_values.as_slice());
+            .drop_values(found.number, &found.attr_values);
     }
 
     /// How many codes all records have.

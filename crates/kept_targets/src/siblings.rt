@@ -110,8 +110,8 @@ pub fn sight_of<'a>(own: &'a KeptElement) -> KeySight<'a>
         declaration: entry.governing.declaration,
         of: entry.governing.of,
         value: &entry.value,
-        attrs: entry.attrs.as_slice(),
-        attr_values: entry.attr_values.as_slice(),
+        attrs: &entry.attrs,
+        attr_values: &entry.attr_values,
     }
 }
 

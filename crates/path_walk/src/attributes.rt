@@ -15,7 +15,6 @@ ghost use Rattle.path_walk.specs.inside.Walk.{reached};
 use crate::declared_by::{governs_structure, is_nillable};
 use crate::nodes::{FieldNodes, NodeFacts};
 use crate::{KeySet, KeySight};
-use assess_records::AttrRecord;
 use simple_values::Value;
 use std::alloc::AllocError;
 use xpath_subset::{Paths, is_reached, reached_is_a_test};
@@ -101,10 +100,9 @@ fn add_attributes(
     requires named { IsNamed set.now.names.now (seen own.now) }
     ensures { OnOk result (AreAdded set.now.parts.now (flat_map (spec.attribute_at set.now.names.now field.now way.now) (seen own.now).attributes) nodes.old nodes.new) }
 {
-    let mut attrs: &[AttrRecord] = own.attrs;
-    let mut values: &[Option<Value>] = own.attr_values;
-    'attrs: while let Some((attr, more)) = attrs.split_first() {
-        let Some((value, others)) = values.split_first() else {
+    let mut index = 0;
+    'attrs: while let Some(attr) = own.attrs.get(index) {
+        let Some(value) = own.attr_values.get(index) else {
             return Ok(());
         };
         let attribute = KeyAttr {
@@ -112,8 +110,7 @@ fn add_attributes(
             value,
         };
         add_attribute(set, field, way, attribute, nodes)?;
-        attrs = more;
-        values = others;
+        index += 1;
     }
     Ok(())
 }

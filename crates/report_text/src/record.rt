@@ -8,7 +8,7 @@ ghost use Rattle.report_text.specs.Words as words;
 use crate::codes::write_codes;
 use crate::names::{write_name, write_type};
 use crate::words::{attempted_word, source_word, validity_word};
-use assess_records::{Attempted, AttrRecord, Codes, ElementRecord, Validity, ValueSource};
+use assess_records::{Attempted, AttrRecord, AttrRecords, Codes, ElementRecord, Validity, ValueSource};
 use xs_components::{Components, TypeId};
 use xs_names::{NameId, Names};
 use xsv_io::{Failed, Part, Sink, write_parts, write_text};
@@ -18,7 +18,7 @@ use xsv_io::{Failed, Part, Sink, write_parts, write_text};
 pub struct Records<'a> {
     pub element: &'a ElementRecord,
     /// Those of its attributes: the given ones in document order, then those that the schema adds.
-    pub attrs: &'a [AttrRecord],
+    pub attrs: &'a AttrRecords,
 }
 
 /// Writes what is known behind a type.
@@ -209,15 +209,15 @@ fn write_attrs<W: Sink>(
     names: &Names,
     parts: &Components,
     number: u32,
-    records: &[AttrRecord],
+    records: &AttrRecords,
 ) -> Result<(), Failed>
     requires named { AreNamed names.now parts.now records.now }
     ensures written { Written W.taken W.faults W.fault_bound sink.old sink.new result (lines.attr_lines names.now parts.now number records.now) }
 {
-    let mut left = records;
-    'records: while let Some((record, more)) = left.split_first() {
+    let mut index = 0;
+    'records: while let Some(record) = records.get(index) {
         write_attr(sink, names, parts, number, record)?;
-        left = more;
+        index += 1;
     }
     Ok(())
 }

@@ -2,16 +2,18 @@ ghost use Rattle.std.specs.Prelude.{◌≡◌, ◌≤◌, ◌^◌, map, MatchOpt
 ghost use Rattle.session_model.specs.Asking.{attr_total, entry_total, code_total};
 ghost use Rattle.tree_assess.specs.Entries.{entry_of};
 
-use assess_records::AttrRecord;
+use assess_records::AttrRecords;
 use tree_assess::ElementEntry;
 
 /// The number of codes of the records of attributes, `None` where it does not fit.
-fn count_attr_codes(attrs: &[AttrRecord]) -> Option<u64>
+fn count_attr_codes(attrs: &AttrRecords) -> Option<u64>
     ensures { MatchOption result (2 ^ 64 ≤ attr_total attrs.now) (λ total. total ≡ attr_total attrs.now) }
 {
     let mut total: u64 = 0;
-    for record in attrs {
+    let mut index = 0;
+    while let Some(record) = attrs.get(index) {
         total = total.checked_add(record.codes.len() as u64)?;
+        index += 1;
     }
     Some(total)
 }
@@ -20,7 +22,7 @@ fn count_attr_codes(attrs: &[AttrRecord]) -> Option<u64>
 fn count_entry_codes(entry: &ElementEntry) -> Option<u64>
     ensures { MatchOption result (2 ^ 64 ≤ entry_total (entry_of entry.now)) (λ total. total ≡ entry_total (entry_of entry.now)) }
 {
-    let of_attrs = count_attr_codes(entry.attrs.as_slice())?;
+    let of_attrs = count_attr_codes(&entry.attrs)?;
     of_attrs.checked_add(entry.element.codes.len() as u64)
 }
 

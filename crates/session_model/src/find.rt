@@ -19,7 +19,7 @@ pub fn records_of(entry: &ElementEntry) -> Records<'_>
 {
     Records {
         element: &entry.element,
-        attrs: entry.attrs.as_slice(),
+        attrs: &entry.attrs,
     }
 }
 

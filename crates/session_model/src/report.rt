@@ -11,7 +11,7 @@ ghost use Rattle.session_model.specs.inside.Telling as telling;
 ghost use Rattle.session_model.specs.inside.Telling.{element_line_of, lines_of, told_text, text_of, left_all};
 
 use crate::Session;
-use assess_records::{AttrRecord, Codes, ElementRecord};
+use assess_records::{AttrRecord, AttrRecords, Codes, ElementRecord};
 use compiled_schema::Compiled;
 use report_text::{Records, write_attr, write_record};
 use what_is_found::{each_element_is_found_once, the_root_is_found_first};
@@ -84,18 +84,18 @@ fn tell_attrs<W: Sink>(
     sink: &mut W,
     set: &Compiled,
     node: u32,
-    attrs: &[AttrRecord],
+    attrs: &AttrRecords,
     left: &mut Option<u32>,
 ) -> Result<(), Failed>
     requires named { AreNamed set.now.names set.now.parts attrs.now }
     ensures written { Written W.taken W.faults W.fault_bound sink.old sink.new result (text_of left.old (map (attr_line_of (set_of set.now) node) attrs.now)) }
     ensures left { OnOk result (left.new ≡ left_all left.old (map (attr_line_of (set_of set.now) node) attrs.now)) }
 {
-    let mut rest = attrs;
-    'attrs: while let Some((record, more)) = rest.split_first() {
+    let mut index = 0;
+    'attrs: while let Some(record) = attrs.get(index) {
         tell_attr(sink, set, node, record, *left)?;
         *left = left_behind(*left, &record.codes);
-        rest = more;
+        index += 1;
     }
     Ok(())
 }

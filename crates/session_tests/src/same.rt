@@ -35,7 +35,10 @@ fn is_same_attribute(one: &AttrRecord, other: &AttrRecord) -> bool {
 pub fn are_same_records(one: &Records<'_>, other: &Records<'_>) -> bool {
     let mut same = is_same_element(one.element, other.element)
         && one.attrs.len() == other.attrs.len();
-    for (a, b) in one.attrs.iter().zip(other.attrs) {
+    for index in 0..one.attrs.len() {
+        let (Some(a), Some(b)) = (one.attrs.get(index), other.attrs.get(index)) else {
+            return false;
+        };
         same = same && is_same_attribute(a, b);
     }
     same
