@@ -75,9 +75,9 @@ module _ (t : Tables) (ranked : IsRanked t) where
     ]
   ]
 
-  pub further : (e x h : ℕ) → HasHead t e x → HasHead t x h → HasHead t e h
-  further _ _ h (named e x is) has = through e x h is has
-  further _ _ h (through e up x is more) has = through e up h is (further up x h more has)
+  pub heads-further : (e x h : ℕ) → HasHead t e x → HasHead t x h → HasHead t e h
+  heads-further _ _ h (named e x is) has = through e x h is has
+  heads-further _ _ h (through e up x is more) has = through e up h is (heads-further up x h more has)
 
   pub remains-low : (o : Option ℕ) (h : ℕ) → Remains t o h → slice_index t.elements.ranks h < left t o
   remains-low None h r = absurd r

@@ -10,7 +10,7 @@ use Rattle.xs_components.specs.Heads.{names_of}
 use Rattle.subst_groups.specs.Groups.{HasHead, IsMember, MayStand, name_of, is_named}
 use Rattle.subst_groups.specs.inside.Named.{nearest_of}
 use Rattle.subst_groups.specs.inside.Steps.{IsPutIf, IsOffered, IsJoined}
-use Rattle.subst_groups.proofs.ChainLaws.{Remains, left, head-within, heads-above, further, remains-low}
+use Rattle.subst_groups.proofs.ChainLaws.{Remains, left, heads-fall, head-within, heads-above, heads-further, remains-low}
 use Rattle.subst_groups.proofs.NearLaws.{IsNamedHead, nearest-head, nearest-remains}
 
 -- the element is put to the groups of the heads below this one, a head of the element
@@ -23,7 +23,7 @@ pub record IsJoinedBelow (t : Tables) (e : ℕ) (first : List (List ℕ)) (above
 module _ (t : Tables) (ranked : IsRanked t) where
   near-there : (e x : ℕ) (o : Option ℕ) → HasHead t e x → nearest_of t x ≡ o → IfSome o (IsNamedHead t e)
   near-there e x None has is = tt
-  near-there e x (Some h) has is = let found = nearest-head t ranked x h is in record { has = further t ranked e x h has found.has; is = found.is }
+  near-there e x (Some h) has is = let near = nearest-head t ranked x h is in record { has = heads-further t ranked e x h has near.has; is = near.is }
 
   own-there : (e : ℕ) (o : Option ℕ) → nearest_of t e ≡ o → IfSome o (IsNamedHead t e)
   own-there e None is = tt
@@ -36,7 +36,7 @@ module _ (t : Tables) (ranked : IsRanked t) where
 
   pub falls : (x : ℕ) (above : Option ℕ) → nearest_of t x ≡ above → left t above < left t (Some x)
   falls x None is = omega arith
-  falls x (Some h) is = let l = remains-low t ranked (Some x) h (inr (nearest-head t ranked x h is).has) in omega (arith, l)
+  falls x (Some h) is = let near = nearest-head t ranked x h is in let l = heads-fall t ranked x h near.has in omega (arith, l)
 
   module _ (e : ℕ) (first : List (List ℕ)) where
     pub join-begins : (above : Option ℕ) → nearest_of t e ≡ above → IsJoinedBelow t e first above first
@@ -44,10 +44,13 @@ module _ (t : Tables) (ranked : IsRanked t) where
       count = refl;
       there = own-there e above is;
       waiting = λ h low. refl;
-      done = λ h low. inr ((λ m. past-nearest e h above is low m.has_head m.named), refl);
+      done = λ h low. inr ((λ m. past-nearest e h above is low m.has_head m.asked), refl);
     }
 
     module _ (head : ℕ) (above : Option ℕ) (old new : List (List ℕ)) (is : nearest_of t head ≡ above) (so : IsJoinedBelow t e first (Some head) old) (offered : IsOffered t e head old new) where
+      found : IsNamedHead t e head
+      found = so.there
+
       other : (h : ℕ) → slice_index t.elements.ranks h < left t above → h ≢ head
       other h low same = let r = ap (slice_index t.elements.ranks) same in let f = falls head above is in omega (arith, r, f)
 
@@ -57,7 +60,7 @@ module _ (t : Tables) (ranked : IsRanked t) where
           (subst (λ xs. IsPutIf (IsMember t head e) (name_of t e) xs (names_of new head)) (so.waiting head (omega arith)) (as-member put))
         where
           as-member : IsPutIf (MayStand t head e) (name_of t e) (names_of old head) (names_of new head) → IsPutIf (IsMember t head e) (name_of t e) (names_of old head) (names_of new head)
-          as-member (inl p) = inl (record { named = so.there.is; has_head = so.there.has; stands = p.0 }, p.1)
+          as-member (inl p) = inl (record { asked = found.is; has_head = found.has; stands = p.0 }, p.1)
           as-member (inr p) = inr ((λ m. p.0 m.stands), p.1)
 
       kept : (h : ℕ) → h ≢ head → names_of new h ≡ names_of old h
@@ -65,7 +68,7 @@ module _ (t : Tables) (ranked : IsRanked t) where
 
       between : (h : ℕ) → h ≢ head → left t above ≤ slice_index t.elements.ranks h → slice_index t.elements.ranks h < left t (Some head) → IsPutIf (IsMember t h e) (name_of t e) (names_of first h) (names_of new h)
       between h differ low high =
-          inr ((λ m. past-nearest head h above is low (heads-above t ranked e head h so.there.has m.has_head differ (omega arith)) m.named), kept h differ ∙ so.waiting h high)
+          inr ((λ m. past-nearest head h above is low (heads-above t ranked e head h found.has m.has_head differ (omega arith)) m.asked), kept h differ ∙ so.waiting h high)
 
       before : (h : ℕ) → h ≢ head → left t (Some head) ≤ slice_index t.elements.ranks h → IsPutIf (IsMember t h e) (name_of t e) (names_of first h) (names_of new h)
       before h differ high = subst (λ xs. IsPutIf (IsMember t h e) (name_of t e) (names_of first h) xs) (sym (kept h differ)) (so.done h high)
@@ -73,7 +76,7 @@ module _ (t : Tables) (ranked : IsRanked t) where
       pub join-more : IsJoinedBelow t e first above new
       join-more = record {
         count = offered.count ∙ so.count;
-        there = near-there e head above so.there.has is;
+        there = near-there e head above found.has is;
         waiting = λ h low. kept h (other h low) ∙ so.waiting h (let f = falls head above is in omega (arith, f));
         done = λ h low. elim (cases_eq h head) [
           | inl same ↦ own h same offered.own

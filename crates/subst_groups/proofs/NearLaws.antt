@@ -1,5 +1,5 @@
 -- The nearest of an element's heads that content models name.
-use Rattle.std.proofs.Common.{◌≡◌, ◌⊎◌, inl, inr, ℕ, suc, ◌+◌, ◌<◌, ◌≤◌, Bool, true, false, List, Option, None, Some, length, slice_get, slice_index, refl, sym, ◌∙◌, subst, ap, arith}
+use Rattle.std.proofs.Common.{◌≡◌, ◌⊎◌, inl, inr, ℕ, zero, suc, ◌+◌, ◌<◌, ◌≤◌, Bool, true, false, List, Option, None, Some, length, slice_get, slice_index, refl, sym, ◌∙◌, subst, ap, arith}
 use Rattle.std.specs.Prelude.{⊤, IfSome, slice_index_or, if◌then◌else◌}
 use Rattle.std.specs.Option.{option_and_then}
 use Rattle.std.proofs.lemmas.Bool.{true≢false}
@@ -80,7 +80,7 @@ module _ (t : Tables) (ranked : IsRanked t) where
 
   -- the nearest head of an element is one of its heads, and is named
   nearest-within : (n e x : ℕ) → slice_index t.elements.ranks e < n → nearest_of t e ≡ Some x → IsNamedHead t e x
-  nearest-within 0 e x low is = absurd (omega arith)
+  nearest-within zero e x low is = absurd (omega arith)
   nearest-within (suc n) e x low is = of (head_of t e) refl (sym (nearest-is e) ∙ is)
     where
       by : (up : ℕ) (b : Bool) → head_of t e ≡ Some up → is_named t up ≡ b → (if b then Some up else nearest_of t up) ≡ Some x → IsNamedHead t e x

@@ -12,7 +12,6 @@ use Rattle.xs_components.specs.declared.common.TypeId.{TypeId}
 use Rattle.xs_components.specs.declared.common.TypeId.TheVariants.{AnyType, Builtin, Simple, Complex}
 use Rattle.xs_components.specs.declared.complex.ComplexType.{ComplexType}
 use Rattle.xs_components.specs.declared.element.ElementDecl.{ElementDecl}
-use Rattle.xs_components.specs.declared.particle.Particle.{Particle}
 use Rattle.xs_components.specs.declared.particle.Term.{Term}
 use Rattle.xs_components.specs.declared.particle.Term.TheVariants.{Element, Any, Group, Sequence, Choice, All as AllOf}
 use Rattle.xs_components.specs.Heads.{names_of}
@@ -105,7 +104,7 @@ is_named t element = list_any (λ part. is_element part.term element) t.particle
 -- Another element is a member of the substitution group of a head that a content model names: it has this head, and may stand for
 -- it. Nobody asks for the members of other heads, of which there may be as many as pairs of elements.
 pub record IsMember (t : Tables) (head element : ℕ) : Type 0 where
-  pub named : is_named t head ≡ true
+  pub asked : is_named t head ≡ true
   pub has_head : HasHead t element head
   pub stands : MayStand t head element
 
