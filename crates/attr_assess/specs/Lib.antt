@@ -1,6 +1,7 @@
 pub mod Instance
 pub mod Governing
 pub mod Schema
+pub mod Known
 pub mod Lacking
 pub mod Order
 pub mod Added

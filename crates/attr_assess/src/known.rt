@@ -1,5 +1,11 @@
 //! What is known of attribute uses before a document is.
 
+ghost use Rattle.std.specs.Prelude.{◌≡◌, IfOk};
+ghost use Rattle.std.specs.Option.{option_copied};
+ghost use Rattle.attr_assess.specs.Added.{AreNamed};
+ghost use Rattle.attr_assess.specs.Known as spec;
+ghost use Rattle.attr_assess.specs.Types.{IsTypeSet};
+
 use crate::added::by_name;
 use crate::found::{FoundUse, written_use};
 use crate::{AttrGoverning, AttrItem, JudgedAttr, judge};
@@ -47,7 +53,12 @@ impl KnownUses {
         names: &Names,
         parts: &Components,
         types: &mut SimpleTypes,
-    ) -> Result<KnownUses, AllocError> {
+    ) -> Result<KnownUses, AllocError>
+        requires types { IsTypeSet parts.now types.old }
+        requires named { AreNamed names.now parts.now }
+        ensures known { IfOk result (spec.AreKnownUses names.now parts.now) }
+        ensures same { types.new ≡ types.old }
+    {
         let orders = orders_of(alloc, names, parts)?;
         let mut complexes = Listed::new(alloc);
         for number in 0..parts.complexes().len() as u32 {
@@ -63,7 +74,9 @@ impl KnownUses {
     }
 
     /// What is known of the use that is written in a place.
-    pub fn at(&self, at: UseAt) -> Option<&KnownUse> {
+    pub fn at(&self, at: UseAt) -> Option<&KnownUse>
+        ensures known { option_copied result ≡ spec.known_at self.now at }
+    {
         let uses = match at.holder {
             UseHolder::Complex(number) => self.complexes.get(number as usize)?,
             UseHolder::AttrGroup(number) => self.groups.get(number as usize)?,

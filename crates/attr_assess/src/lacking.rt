@@ -10,6 +10,7 @@ ghost use Rattle.attr_assess.specs.Governing.{uses_for};
 ghost use Rattle.attr_assess.specs.Schema.{IsAttrSet};
 ghost use Rattle.attr_assess.specs.Lacking as spec;
 ghost use Rattle.attr_assess.specs.Added.{AreNamed, AreLacking};
+ghost use Rattle.attr_assess.specs.Known.{AreKnownUses};
 ghost use Rattle.attr_assess.specs.inside.Uses as inside;
 
 use crate::{AttrSchema, KnownUse};
@@ -42,6 +43,7 @@ pub fn lacking_attrs<'a>(
     requires set { (ids : List Bool) × IsAttrSet schema.now.parts.now schema.now.tops.now ids schema.now.tables.now }
     requires there { IsType schema.now.parts.now of }
     requires named { AreNamed schema.now.names.now schema.now.parts.now }
+    requires known { AreKnownUses schema.now.names.now schema.now.parts.now schema.now.known.now }
     ensures lacking { IfOk result (AreLacking schema.now.names.now schema.now.parts.now (uses_for schema.now.parts.now of).uses given.now) }
 {
     match schema.table_of(of) {

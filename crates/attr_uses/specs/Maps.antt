@@ -1,6 +1,8 @@
 -- Maps from numbers of names to entries.
-use Rattle.std.specs.Prelude.{◌≡◌, ℕ, ◌^◌, ◌<◌, ◌≤◌, Bool, true, false, List, Option, None, Some, length, IsTrue, MatchOption}
+use Rattle.std.specs.Prelude.{◌≡◌, ℕ, ◌^◌, ◌+◌, ◌<◌, ◌≤◌, ◌↔◌, ◌++◌, Bool, true, false, List, Option, None, Some, length, map, Contains, IsTrue, MatchOption}
+use Rattle.std.specs.List.Sorted.{IsStrictlyIncreasing}
 use Rattle.attr_uses.specs.declared.entry.Entry.{Entry}
+use Rattle.attr_uses.specs.declared.entry.UseAt.{UseAt}
 use Rattle.attr_uses.specs.declared.node.Node.{Node}
 use Rattle.attr_uses.specs.Nodes.{find, IsMap}
 
@@ -49,6 +51,26 @@ pub record IsLeast (depth : ℕ) (entries : ℕ → Option Entry) (from name : �
 -- the least name from a number on whose entry is needed, if there is one
 abbrev pub IsNext : ℕ → (ℕ → Option Entry) → ℕ → Option ℕ → Type 0
 IsNext depth entries from next = MatchOption next (NoneNeeded entries from (2 ^ depth)) (IsLeast depth entries from)
+
+-- the name has an entry that is needed, whose first use is this one
+pub record HasNeeded (entries : ℕ → Option Entry) (name : ℕ) (at : UseAt) : Type 0 where
+  pub entry : Entry
+  pub has : entries name ≡ Some entry
+  pub needed : entry.needed ≡ true
+  pub first : entry.first ≡ at
+
+-- these are the names from a number on whose entries are needed, rising, each with its first use
+pub record AreNeededFrom (depth : ℕ) (entries : ℕ → Option Entry) (from : ℕ) (needed : List (ℕ × UseAt)) : Type 0 where
+  pub each : (name : ℕ) (at : UseAt) → Contains needed (from + name, at) ↔ ((name < 2 ^ depth) × HasNeeded entries name at)
+  pub behind : (name : ℕ) (at : UseAt) → Contains needed (name, at) → from ≤ name
+  pub rising : IsStrictlyIncreasing (map (λ n. n.0) needed)
+
+abbrev pub AreNeeded : ℕ → (ℕ → Option Entry) → List (ℕ × UseAt) → Type 0
+AreNeeded depth entries needed = AreNeededFrom depth entries 0 needed
+
+-- the same, behind what was there before
+abbrev pub AreNeededBehind : ℕ → (ℕ → Option Entry) → ℕ → List (ℕ × UseAt) → List (ℕ × UseAt) → Type 0
+AreNeededBehind depth entries from old new = (needed : List (ℕ × UseAt)) × (new ≡ old ++ needed) × AreNeededFrom depth entries from needed
 
 -- two maps have the same for the names from a number on, below another
 abbrev pub AreAlike : (ℕ → Option Entry) → (ℕ → Option Entry) → ℕ → ℕ → Type 0

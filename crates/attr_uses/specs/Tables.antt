@@ -1,6 +1,7 @@
 -- What stands for the attribute uses of types and of attribute groups.
-use Rattle.std.specs.Prelude.{◌≡◌, ℕ, ◌^◌, ◌<◌, ◌≤◌, Bool, true, false, ◌||◌, not, List, [], ◌∷◌, Option, None, Some, Result, Ok, Err, ⊤, filter, length, slice_get, slice_index_or, MatchOption}
+use Rattle.std.specs.Prelude.{◌≡◌, ℕ, ◌^◌, ◌<◌, ◌≤◌, Bool, true, false, ◌||◌, not, List, [], ◌∷◌, Option, None, Some, Result, Ok, Err, ⊤, ◌↔◌, Contains, map, filter, length, slice_get, slice_index_or, MatchOption}
 use Rattle.std.specs.List.{list_any}
+use Rattle.std.specs.List.Sorted.{IsStrictlyIncreasing}
 use Rattle.std.specs.Option.{is_some}
 use Rattle.xs_codes.specs.declared.fault.Fault.{Fault}
 use Rattle.xs_components.specs.Sets.{admits}
@@ -140,6 +141,11 @@ pub record IsNextNeeded (t : Tables) (uses : List UseAt) (from name : ℕ) : Typ
 -- the least number of a name, from a number on, whose first use is needed, if there is one
 abbrev pub IsNext : Tables → List UseAt → ℕ → Option ℕ → Type 0
 IsNext t uses from next = MatchOption next (NoneNeeded t uses from (2 ^ 32)) (IsNextNeeded t uses from)
+
+-- these are the numbers of the names whose first uses are needed, rising, each with that use
+pub record AreNeeded (t : Tables) (uses : List UseAt) (needed : List (ℕ × UseAt)) : Type 0 where
+  pub each : (name : ℕ) (at : UseAt) → Contains needed (name, at) ↔ ((name < 2 ^ 32) × (use_named t uses name ≡ Some at) × (is_needed t at ≡ true))
+  pub rising : IsStrictlyIncreasing (map (λ n. n.0) needed)
 
 -- two lists of uses have the same first use of each name from one number on and below another
 abbrev pub AreAlike : Tables → List UseAt → List UseAt → ℕ → ℕ → Type 0

@@ -15,9 +15,9 @@ mod store;
 mod tables;
 mod wildcards;
 
-pub use own::uses_in;
 pub use entry::{Entry, UseAt, UseHolder};
 pub use join::Join;
 pub use maps::{UseMap, UseMaps};
+pub use own::uses_in;
 pub use store::KeptTable;
 pub use tables::{AttrTable, AttrTables, group_uses, use_at, uses_of};

@@ -1,7 +1,7 @@
-ghost use Rattle.std.specs.Prelude.{◌≡◌, ℕ, ◌+◌, ◌^◌, ◌<◌, ◌≤◌, ◌↔◌, Option, length, IsTrue, IfSome};
+ghost use Rattle.std.specs.Prelude.{◌≡◌, ℕ, ◌+◌, ◌^◌, ◌<◌, ◌≤◌, ◌↔◌, Option, length, IsTrue, IfSome, IfOk, OnOk};
 ghost use Rattle.std.specs.Option.{option_map};
 ghost use Rattle.attr_uses.specs.Nodes.{find, IsMap, AreNodes};
-ghost use Rattle.attr_uses.specs.Maps.{IsMapOf, SomeIs, TwoAre, IsNext, IsNextUnlike};
+ghost use Rattle.attr_uses.specs.Maps.{IsMapOf, SomeIs, TwoAre, IsNext, IsNextUnlike, AreNeeded, AreNeededBehind};
 ghost use Rattle.attr_uses.specs.declared.entry.Entry.{Entry};
 
 use crate::grow::half_of;
@@ -43,7 +43,10 @@ impl UseMaps {
     }
 
     /// The names whose first use is needed, the least first, each with that use.
-    pub fn needed(&self, alloc: Global, map: UseMap) -> Result<Vec<(u32, UseAt)>, AllocError> {
+    pub fn needed(&self, alloc: Global, map: UseMap) -> Result<Vec<(u32, UseAt)>, AllocError>
+        requires map { (has : ℕ → Option Entry) × IsMapOf self.now map.top has }
+        ensures needed { (has : ℕ → Option Entry) → IsMapOf self.now map.top has → IfOk result (λ needed. AreNeeded self.now.depth has needed.items) }
+    {
         let mut needed = Vec::new(alloc);
         needed_under(&self.nodes, self.depth, map.top, 0, &mut needed)?;
         Ok(needed)
@@ -117,7 +120,14 @@ fn needed_under(
     at: u32,
     from: u32,
     needed: &mut Vec<(u32, UseAt)>,
-) -> Result<(), AllocError> {
+) -> Result<(), AllocError>
+    requires nodes { AreNodes nodes.now }
+    requires levels { levels ≤ 32 }
+    requires there { at < length nodes.now }
+    requires shape { IsMap nodes.now levels at }
+    requires within { from + 2 ^ levels ≤ 2 ^ 32 }
+    ensures { OnOk result (AreNeededBehind levels (find nodes.now levels at) from needed.old.items needed.new.items) }
+{
     let node = node_of(nodes, at);
     if !node.sum().needed {
         return Ok(());

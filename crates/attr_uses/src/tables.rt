@@ -7,7 +7,7 @@ ghost use Rattle.component_references.specs.Ranked.{IsRanked};
 ghost use Rattle.attr_uses.specs.Written as written;
 ghost use Rattle.attr_uses.specs.Uses as spec;
 ghost use Rattle.attr_uses.specs.Uses.{AttrUses};
-ghost use Rattle.attr_uses.specs.Tables.{StandsFor, Answers, AreTablesOf, IsTableOf, HasTwoOfOneName, HasTwoIds, IsNext, IsNextUnlike, IsWildcard, IsStore};
+ghost use Rattle.attr_uses.specs.Tables.{StandsFor, Answers, AreTablesOf, IsTableOf, HasTwoOfOneName, HasTwoIds, IsNext, AreNeeded, IsNextUnlike, IsWildcard, IsStore};
 
 use crate::UseAt;
 use crate::groups::Answer;
@@ -130,7 +130,11 @@ impl AttrTables {
     }
 
     /// The names whose first use is required or has a value constraint, by their numbers, each with that use.
-    pub fn needed(&self, alloc: Global, table: KeptTable) -> Result<Vec<(u32, UseAt)>, AllocError> {
+    pub fn needed(&self, alloc: Global, table: KeptTable) -> Result<Vec<(u32, UseAt)>, AllocError>
+        requires store { IsStore self.now.store }
+        requires table { (t : Tables) × (ids : List Bool) × (value : AttrUses) × StandsFor t ids self.now.store table value }
+        ensures needed { (t : Tables) (ids : List Bool) (value : AttrUses) → StandsFor t ids self.now.store table value → IfOk result (λ needed. AreNeeded t value.uses needed.items) }
+    {
         self.store.maps.needed(alloc, table.uses)
     }
 
