@@ -4,7 +4,7 @@ import re
 import shutil
 
 from houses import Fault, files, read, remove, rename, write
-from paths import Antt, Pages, Rust, library, printed_library
+from paths import Antt, Pages, Rust, leaves, library, printed_library
 
 HEAD = '## Callers and definitions'
 
@@ -149,7 +149,7 @@ class Join:
     def passed_names(layout):
         """The crates that a library passes on."""
         mods = {name for _, _, name in layout.library.mods}
-        return {path.rpartition('::')[2] for _, (seen, path) in layout.library.uses if seen and path.partition('::')[0] not in mods and '{' not in path}
+        return {name for _, (seen, path) in layout.library.uses if seen and path.partition('::')[0] not in mods for name in leaves(path)}
 
     # ---- files
 

@@ -122,15 +122,23 @@ def printed_library(found, rewrite, name):
     uses = list(dict.fromkeys((seen, flat(path), '\n'.join(attrs)) for attrs, (seen, path) in found.uses))
     lines = [f'{attrs}\n{seen}use {path};' if attrs else f'{seen}use {path};' for seen, path, attrs in uses]
     text = merged(rewrite('\n'.join(lines) + '\n'), {it[0] for it in mods} | {'crate', name})
-    kept, known = [], set()
+    groups, known = {}, set()
     for use in USE.finditer(text):
         path = flat(use[3])
-        is_own = use[2] and (path.startswith('crate::') or path in ('crate', name))
-        passed = path.rpartition('::')[2] if '::' in path and '{' not in path and re.fullmatch(r'[a-z_0-9]+', path.rpartition('::')[2]) else path
-        if is_own or (use[2], passed) in known and passed == path:
-            continue
-        known.add((use[2], passed))
-        kept.append(use[0])
+        front, _, names = path.rpartition('::') if not path.endswith('}') else path.partition('::{')
+        nested = '{' in front or '{' in names
+        for leaf in [path] if nested else re.split(r',\s*', names.rstrip('}')):
+            first = front.split('::')[0] if front else leaf
+            if use[2] and first in ('crate', name) or (use[2], leaf) in known and (not front or re.fullmatch(r'[a-z_0-9]+', leaf)):
+                continue
+            known.add((use[2], leaf))
+            groups.setdefault((use[2], '' if nested else front), []).append(leaf)
+    kept = []
+    for (seen, front), names in groups.items():
+        if front:
+            kept.append(f'{seen}use {front}::{names[0]};' if len(names) == 1 else f'{seen}use {front}::{{{", ".join(names)}}};')
+        else:
+            kept += [f'{seen}use {it};' for it in names]
     own = [it for it in kept if not it.startswith('pub')]
     shown = [it for it in kept if it.startswith('pub')]
     parts = ['\n'.join([*found.docs, *found.attrs]), '\n'.join(found.ghosts), '\n'.join(own),
@@ -220,9 +228,10 @@ class Rust:
         self.members = '|'.join(sorted(join.layouts, key=len, reverse=True))
         self.passers = {}
         for crate in join.house.deps:
-            for _, path in re.findall(r'(?m)^pub (use) ([\w:]+);', read(f'{self.top}/crates/{crate}/src/lib.rt', '')):
-                if path.rpartition('::')[2] in self.layouts:
-                    self.passers.setdefault(path.rpartition('::')[2], set()).add(crate)
+            for use in USE.finditer(read(f'{self.top}/crates/{crate}/src/lib.rt', '')):
+                for name in leaves(use[3]) if use[2] else ():
+                    if name in self.layouts:
+                        self.passers.setdefault(name, set()).add(crate)
 
     def text(self, text, now, was):
         """Code of the crate `was`, which is in the crate `now`."""
@@ -235,11 +244,22 @@ class Rust:
         if first in self.layouts:
             own = self.layouts[first].new['item'] if colons else {}
             rest = self.items(rest, own)
-            return ('crate' if now == self.name else self.name) + colons + rest
+            to = 'crate' if now == self.name else self.name
+            # What one of these crates passed on of another is its own now.
+            rest = re.sub(rf'^(?:{self.members})(?:::|$)', '', rest)
+            inner = re.fullmatch(r'\{([^{}]*)\}', flat(rest))
+            if inner:
+                names = [it for it in re.split(r',\s*', inner[1]) if it not in self.layouts]
+                rest = names[0] if len(names) == 1 else f'{{{", ".join(names)}}}' if names else ''
+            return to + colons + rest if rest else to
         if colons:
             second, more, behind = rest.partition('::')
             if second in self.layouts and first in self.passers.get(second, ()):
                 return f'{first}::{self.name}{more}{behind}'
+            for name in self.layouts:
+                if first in self.passers.get(name, ()):
+                    rest = re.sub(rf'(?<![\w:]){name}(?=::|,|\}})', self.name, rest)
+            return first + colons + rest
         return path
 
     @staticmethod
