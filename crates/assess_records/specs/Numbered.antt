@@ -1,7 +1,7 @@
 -- The names of a document by their numbers in the table of names of a schema set, and what its elements have to show.
 use Rattle.std.specs.Prelude.{ℕ, List, [], ◌∷◌, ◌++◌, map, reverse, Option, None, Some, unwrap_or}
 use Rattle.xs_names.specs.Names.{NameTable, absent_space, space_number}
-pub use Rattle.tree_names.specs.Numbers.{space_in, name_in}
+pub use Rattle.plain_tree.specs.Numbers.{space_in, name_in}
 use Rattle.xs_codes.specs.declared.fault.Found.{Found}
 use Rattle.tree_rows.specs.Forest.{Forest, none, text, element}
 use Rattle.tree_rows.specs.declared.name.Expanded.{Expanded}

@@ -23,8 +23,8 @@ use Rattle.content_models.specs.declared.automaton.ContentAutomaton.{ContentAuto
 use Rattle.content_models.specs.declared.automaton.ContentAutomaton.TheVariants.{States, All}
 use Rattle.content_models.proofs.Building.{first-of-states, first-of-all}
 use Rattle.content_models.proofs.TermLaws.{named-in}
-use Rattle.model_checks.proofs.Accepting.{same-accepts}
-use Rattle.model_checks.proofs.Growing.{built-kept}
+use Rattle.schema_models.proofs.Accepting.{same-accepts}
+use Rattle.schema_models.proofs.Growing.{built-kept}
 use Rattle.assessment.specs.Attribution.{SchemaSet, expanded, IsWord, Begins, AreTermsBy, AreTerms}
 use Rattle.assessment.specs.Fitting.{IsAutomatonFor, Fits}
 use Rattle.assessment.specs.inside.Found.{symbols_in, all_state_in, IsKept, BeginsBy, IsAmbivalentBy, IsNextTerm, AreFound, stuck_after}

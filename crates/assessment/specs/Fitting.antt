@@ -6,7 +6,7 @@ use Rattle.particle_forms.specs.Accepted.{accepts}
 use Rattle.content_automaton.specs.Recognized.{IsUnambiguous}
 use Rattle.content_models.specs.Built.{IsBuilt}
 use Rattle.content_models.specs.declared.automaton.ContentAutomaton.{ContentAutomaton}
-use Rattle.model_checks.specs.Named.{AreNamed}
+use Rattle.schema_models.specs.Named.{AreNamed}
 use Rattle.assessment.specs.Attribution.{SchemaSet}
 
 module _ (s : SchemaSet) where

@@ -8,3 +8,15 @@ pub mod Attrs
 pub mod Judged
 pub mod Terms
 pub mod Only
+pub mod Flagged
+pub mod Values
+pub mod Spaces
+pub mod Heads
+pub mod Types
+pub mod GrownAttrs
+pub mod Elements
+pub mod GrownTerms
+pub mod Assessments
+pub mod Numbers
+pub mod Governed
+pub mod Ambivalent

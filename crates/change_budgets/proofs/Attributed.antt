@@ -14,9 +14,9 @@ use Rattle.assess_records.specs.Numbered.{name_in}
 use Rattle.assessment.specs.Local.{AreRead, HasElement, element_numbers}
 use Rattle.doc_nodes.specs.Nodes.{Nodes}
 use Rattle.doc_changes.specs.Stands.{StandsFor}
-use Rattle.doc_documents.specs.Readers.{name_at}
-use Rattle.doc_heads.specs.Heads.{readers_of}
-use Rattle.doc_heads.proofs.Showing.{name_shown}
+use Rattle.doc_changes.specs.Readers.{name_at}
+use Rattle.doc_readers.specs.Heads.{readers_of}
+use Rattle.doc_readers.proofs.Showing.{name_shown}
 use Rattle.kept_changes.proofs.from_kept_records.Nodes.{shown}
 
 -- the names of the elements among siblings

@@ -20,9 +20,9 @@ use Rattle.assessment.specs.Assessment.{Entry, Beside, entries}
 use Rattle.assessment.specs.Local.{AreRead, HasElement}
 use Rattle.assessment.specs.Local as local
 use Rattle.assessment.proofs.Alike.{element-counts}
-use Rattle.identity_assessment.specs.Identity.{beside_of}
-use Rattle.governing_laws.specs.Governed.{AreGovernings, governing_at}
-use Rattle.governing_laws.proofs.Governed.{assessed-governed}
+use Rattle.what_is_found.specs.Identity.{beside_of}
+use Rattle.assessment_laws.specs.Governed.{AreGovernings, governing_at}
+use Rattle.assessment_laws.proofs.Governed.{assessed-governed}
 use Rattle.compiled_schema.specs.Usable.{set_of}
 use Rattle.compiled_schema.specs.declared.compiled.Compiled.{Compiled}
 use Rattle.tree_assess.specs.Entries.{entry_of}
@@ -38,15 +38,15 @@ use Rattle.doc_nodes.specs.declared.content.Content.TheVariants as contents
 use Rattle.doc_changes.specs.Held.{kind_in, kind_at, parent_at, attributes_in, attributes_by, attributes_at, has_number}
 use Rattle.doc_changes.specs.Stands.{StandsFor, expanded_of}
 use Rattle.doc_changes.proofs.Standing.{present_times, absent_times}
-use Rattle.doc_documents.specs.Readers.{element_numbers}
-use Rattle.doc_documents.proofs.Levels.{document_is}
-use Rattle.doc_documents.proofs.Reading.{are_read}
+use Rattle.doc_changes.specs.Readers.{element_numbers, name_at}
+use Rattle.doc_changes.proofs.Levels.{document_is}
+use Rattle.doc_changes.proofs.Reading.{are_read}
 use Rattle.doc_edits.specs.Changes.{CanMake, IsOf, changed}
 use Rattle.doc_edits.specs.declared.change.Change.{Change}
 use Rattle.doc_edits.specs.declared.change.Change.TheVariants as changes
-use Rattle.doc_heads.specs.Heads.{readers_of}
-use Rattle.doc_heads.proofs.Reading.{readers_are}
-use Rattle.doc_planting.proofs.Numbering.{number_within}
+use Rattle.doc_readers.specs.Heads.{readers_of}
+use Rattle.doc_readers.proofs.Reading.{readers_are}
+use Rattle.doc_changes.proofs.Numbering.{number_within}
 use Rattle.kept_slots.specs.Slots.{at}
 use Rattle.kept_changes.specs.from_kept_records.KeptElement.{KeptElement}
 use Rattle.kept_changes.specs.from_kept_records.Slots.{KeptSlots, IsMade, kept_at, pair_at}
@@ -60,11 +60,10 @@ use Rattle.kept_changes.proofs.from_kept_records.Sums.{kept-is}
 use Rattle.kept_changes.specs.from_kept_state.KeptState.{KeptState}
 use Rattle.kept_changes.specs.from_kept_judging.Judged.{root_pair, given_pair, again_pair, pair_by, symbols_by}
 use Rattle.kept_changes.proofs.from_kept_forgetting.Placed.{child-place}
-use Rattle.elem_regoverning.proofs.Regoverned.{child-again, root-again}
+use Rattle.elem_governing.proofs.Regoverned.{child-again, root-again}
 use Rattle.model_terms.specs.Symbols.{child_symbols}
 use Rattle.model_terms.specs.Terms.{term_in}
 use Rattle.tree_rows.specs.declared.row.Attribute.{Attribute}
-use Rattle.doc_documents.specs.Readers.{name_at}
 use Rattle.kept_changes.specs.from_kept_below.Moved.{AreGivenDown, moved}
 use Rattle.kept_changes.specs.from_kept_children.Edited.{IsRightFor}
 use Rattle.kept_changes.specs.from_kept_children.Steps.{GovernsBelow, digits, marked_count}

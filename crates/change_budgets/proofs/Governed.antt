@@ -21,7 +21,7 @@ use Rattle.assessment.specs.Attribution.{SchemaSet, content_particle, AreTerms}
 use Rattle.assessment.specs.Assessment.{first_pair, other_pairs, governed, root_pairs}
 use Rattle.assessment.specs.Local.{AreRead, IsRead, HasElement, element_numbers}
 use Rattle.assessment_laws.proofs.Terms.{terms-are}
-use Rattle.governing_laws.specs.Governed.{AreInner, AreGoverned, AreGovernings}
+use Rattle.assessment_laws.specs.Governed.{AreInner, AreGoverned, AreGovernings}
 use Rattle.compiled_schema.specs.Usable.{IsUsable, set_of}
 use Rattle.compiled_schema.specs.declared.compiled.Compiled.{Compiled}
 use Rattle.model_terms.specs.Symbols.{child_symbols}
@@ -30,11 +30,11 @@ use Rattle.model_terms.proofs.Runs.{runs-are}
 use Rattle.doc_nodes.specs.Nodes.{Node, Nodes, IsNode, element_children}
 use Rattle.doc_changes.specs.Held.{parent_at}
 use Rattle.doc_changes.specs.Stands.{StandFor, StandsFor}
-use Rattle.doc_documents.specs.Readers.{name_at, own_scope, scope_at}
-use Rattle.doc_documents.proofs.Reading.{are_read, scope_below, scope_root, depth_below}
-use Rattle.doc_heads.specs.Heads.{readers_of, texts_named}
-use Rattle.doc_heads.proofs.Reading.{readers_are}
-use Rattle.doc_heads.proofs.Showing.{name_shown, texts_shown, scope_shown}
+use Rattle.doc_changes.specs.Readers.{name_at, own_scope, scope_at}
+use Rattle.doc_changes.proofs.Reading.{are_read, scope_below, scope_root, depth_below}
+use Rattle.doc_readers.specs.Heads.{readers_of, texts_named}
+use Rattle.doc_readers.proofs.Reading.{readers_are}
+use Rattle.doc_readers.proofs.Showing.{name_shown, texts_shown, scope_shown}
 use Rattle.kept_changes.specs.from_kept_records.Fit.{models_of, head_at}
 use Rattle.kept_changes.proofs.from_kept_records.Modelled.{type-fits}
 use Rattle.kept_changes.proofs.from_kept_records.Nodes.{all-of, shown, child-parent, root-numbers}

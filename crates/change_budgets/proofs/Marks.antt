@@ -12,8 +12,8 @@ use Rattle.assessment.specs.Attribution.{SchemaSet, content_particle}
 use Rattle.assessment.specs.Fitting.{Fits, IsAutomatonFor}
 use Rattle.assessment.specs.Local.{AreRead, HasElement, element_numbers}
 use Rattle.assessment.proofs.Walking.{kept-now}
-use Rattle.governing_laws.specs.Ambivalent.{is_ambivalent}
-use Rattle.governing_laws.proofs.Ambivalent.{ambivalent-told, told-ambivalent}
+use Rattle.assessment_laws.specs.Ambivalent.{is_ambivalent}
+use Rattle.assessment_laws.proofs.Ambivalent.{ambivalent-told, told-ambivalent}
 use Rattle.compiled_schema.specs.Usable.{IsUsable, set_of}
 use Rattle.compiled_schema.specs.declared.compiled.Compiled.{Compiled}
 use Rattle.model_terms.specs.Symbols.{child_symbols}
@@ -23,9 +23,9 @@ use Rattle.model_lists.specs.Lists.{places_from}
 use Rattle.edit_budgets.specs.Budget.{ambivalent_among, ambivalent_by}
 use Rattle.doc_nodes.specs.Nodes.{Nodes, element_children}
 use Rattle.doc_changes.specs.Stands.{StandsFor}
-use Rattle.doc_documents.specs.Readers.{name_at}
-use Rattle.doc_heads.specs.Heads.{readers_of}
-use Rattle.doc_heads.proofs.Showing.{name_shown}
+use Rattle.doc_changes.specs.Readers.{name_at}
+use Rattle.doc_readers.specs.Heads.{readers_of}
+use Rattle.doc_readers.proofs.Showing.{name_shown}
 use Rattle.kept_changes.specs.from_kept_records.Fit.{models_of}
 use Rattle.kept_changes.proofs.from_kept_records.Modelled.{type-fits}
 use Rattle.kept_changes.proofs.from_kept_records.Nodes.{shown}

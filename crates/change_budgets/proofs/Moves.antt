@@ -7,7 +7,7 @@ use Rattle.elem_governing.specs.declared.pairs.Governing.{Governing}
 use Rattle.assessment.specs.Local.{HasElement}
 use Rattle.edit_budgets.specs.Budget.{same_governing, children_if}
 use Rattle.edit_budgets.specs.Budget as budget
-use Rattle.doc_documents.specs.Readers.{element_numbers}
+use Rattle.doc_changes.specs.Readers.{element_numbers}
 use Rattle.kept_slots.specs.Slots.{at}
 use Rattle.kept_changes.specs.from_kept_records.KeptElement.{KeptElement}
 use Rattle.kept_changes.specs.from_kept_records.Slots.{KeptSlots}

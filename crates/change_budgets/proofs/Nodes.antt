@@ -17,7 +17,7 @@ use Rattle.edit_budgets.specs.Lists.{parent_in}
 use Rattle.doc_nodes.specs.Nodes.{Nodes}
 use Rattle.doc_changes.specs.Stands.{StandFor}
 use Rattle.doc_changes.proofs.Standing.{present_times}
-use Rattle.doc_documents.specs.Readers.{element_numbers}
+use Rattle.doc_changes.specs.Readers.{element_numbers}
 use Rattle.change_budgets.proofs.Paths.{has-parent}
 
 pub numbers-same : (f : Forest) → element_numbers f ≡ local.element_numbers f

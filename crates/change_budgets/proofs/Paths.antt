@@ -21,7 +21,7 @@ use Rattle.assessment.specs.Assessment.{first_pair, other_pairs, governed, root_
 use Rattle.assessment.specs.Local.{Readers, AreRead, HasElement, element_numbers}
 use Rattle.assessment.proofs.Alike.{element-counts}
 use Rattle.assessment_laws.proofs.Terms.{terms-are}
-use Rattle.governing_laws.specs.Governed.{AreInner, AreGoverned, AreGovernings}
+use Rattle.assessment_laws.specs.Governed.{AreInner, AreGoverned, AreGovernings}
 use Rattle.edit_budgets.specs.Lists.{parent_in}
 use Rattle.doc_nodes.specs.Nodes.{Nodes}
 use Rattle.doc_changes.specs.Stands.{StandFor}

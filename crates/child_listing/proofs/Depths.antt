@@ -14,7 +14,7 @@ use Rattle.doc_nodes.specs.Nodes.{Node, Nodes, node, IsNode, Has, Distinct, IsSo
 use Rattle.doc_nodes.proofs.Among.{lacks-has}
 use Rattle.doc_changes.specs.Held.{parent_at}
 use Rattle.doc_changes.specs.Stands.{StandFor, StandsFor, firsts}
-use Rattle.doc_documents.proofs.Reading.{depth_below}
+use Rattle.doc_changes.proofs.Reading.{depth_below}
 use Rattle.kept_judging.proofs.from_kept_records.Nodes.{has-element, root-there, there}
 use Rattle.child_listing.proofs.Distinct.{distinct-filter, filtered}
 use Rattle.child_listing.proofs.Parents.{parent-of}

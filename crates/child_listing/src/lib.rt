@@ -3,7 +3,6 @@
 
 mod listing;
 
-pub use kept_judging::kept_records;
-pub use kept_judging::kept_state;
 pub use kept_judging;
+pub use kept_judging::{kept_records, kept_state};
 pub use listing::{Listing, list_children};

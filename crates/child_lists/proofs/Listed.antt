@@ -23,8 +23,8 @@ use Rattle.doc_nodes.specs.declared.content.Content.{Content}
 use Rattle.doc_nodes.specs.declared.content.Content.TheVariants as contents
 use Rattle.doc_changes.specs.Held.{name_in}
 use Rattle.doc_changes.specs.Stands.{StandsFor}
-use Rattle.doc_documents.specs.Readers.{name_by, name_at}
-use Rattle.doc_heads.proofs.Showing.{name_number}
+use Rattle.doc_changes.specs.Readers.{name_by, name_at}
+use Rattle.doc_readers.proofs.Showing.{name_number}
 use Rattle.child_listing.specs.from_kept_records.Slots.{kept_at, pair_at}
 use Rattle.child_listing.specs.from_kept_records.Fit.{models_of, IsListed}
 use Rattle.child_listing.specs.from_kept_state.KeptState.{KeptState}

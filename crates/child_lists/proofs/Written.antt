@@ -16,8 +16,8 @@ use Rattle.doc_nodes.specs.Nodes.{Nodes, element_children}
 use Rattle.doc_nodes.proofs.Among.{lacks-has}
 use Rattle.kept_slots.specs.Slots.{at}
 use Rattle.child_listing.specs.from_kept_records.KeptElement.{KeptElement}
-use Rattle.child_listing.specs.from_kept_records.Slots.{IsKept, IsMade, blank, kept_at, pair_at, record_at}
-use Rattle.child_listing.specs.from_kept_records.Fit.{models_of, model_at, symbols_at, IsListed, IsGathered, IsFit}
+use Rattle.child_listing.specs.from_kept_records.Slots.{IsKept, IsMade, blank, kept_at, pair_at, record_at, entry_at}
+use Rattle.child_listing.specs.from_kept_records.Fit.{models_of, model_at, symbols_at, IsListed, IsGathered, IsFit, head_at, root_codes}
 use Rattle.child_listing.specs.from_kept_records.Books.{IsBooked, HaveOwnLists}
 use Rattle.child_listing.proofs.from_kept_records.Frames.{map-same, SeesChild, fit-same, gathered-same, fit-lists}
 use Rattle.child_listing.proofs.from_kept_records.Lists.{listed-kept}
@@ -25,17 +25,14 @@ use Rattle.child_listing.specs.from_kept_state.Kept.{IsBeside, Rewrites}
 use Rattle.child_listing.specs.from_kept_state.KeptChildren.{KeptChildren}
 use Rattle.child_listing.specs.from_kept_state.KeptState.{KeptState}
 use Rattle.child_listing.proofs.from_kept_state.Beside.{kept-there, beside-same}
-use Rattle.child_listing.specs.from_kept_judging.Judged.{symbols_by, pair_by, IsJudgedBy}
+use Rattle.child_listing.specs.from_kept_judging.Judged.{symbols_by, pair_by, IsJudgedBy, shape_with}
 use Rattle.child_lists.specs.Family.{AreCounted, IsListedBy, IsAttributed, AreGivenBut, IsMidway, model_of, symbols_of}
 use Rattle.assess_records.specs.Numbered.{shape_of}
 use Rattle.assess_records.specs.declared.shape.ElementShape.{ElementShape}
 use Rattle.assessment.specs.Attribution.{SchemaSet}
 use Rattle.assessment.specs.Assessment.{AreJudged}
-use Rattle.doc_documents.specs.Readers.{own_chars}
-use Rattle.doc_heads.specs.Heads.{texts_named}
-use Rattle.child_listing.specs.from_kept_records.Fit.{head_at, root_codes}
-use Rattle.child_listing.specs.from_kept_records.Slots.{entry_at}
-use Rattle.child_listing.specs.from_kept_judging.Judged.{shape_with}
+use Rattle.doc_changes.specs.Readers.{own_chars}
+use Rattle.doc_readers.specs.Heads.{texts_named}
 use Rattle.tree_assess.specs.Entries.{entry_of}
 use Rattle.tree_assess.specs.declared.entry.ElementEntry.{ElementEntry}
 

@@ -4,8 +4,7 @@
 mod lists;
 mod place;
 
-pub use child_listing::kept_judging;
-pub use child_listing::kept_state;
+pub use child_listing::{kept_judging, kept_state};
 pub use kept_forgetting;
 pub use lists::{govern_at, list_child, note_stuck, relist_child, unlist_child};
 pub use place::{ChildPlace, list_of, place_of};

@@ -11,7 +11,7 @@ ghost use Rattle.compiled_schema.specs.Usable.{IsUsable};
 ghost use Rattle.model_terms.specs.Terms.{stuck_in, term_in};
 ghost use Rattle.doc_nodes.specs.Nodes.{Lacks, Nodes, element_children, is_element_at};
 ghost use Rattle.doc_changes.specs.Stands.{StandsFor};
-ghost use Rattle.doc_documents.specs.Readers.{name_at};
+ghost use Rattle.doc_changes.specs.Readers.{name_at};
 ghost use Rattle.kept_slots.specs.Slots.{at as slot_at};
 ghost use Rattle.child_listing.specs.from_kept_records.Books.{HaveOwnLists};
 ghost use Rattle.child_listing.specs.from_kept_records.Fit.{models_of};
@@ -24,11 +24,11 @@ ghost use Rattle.child_lists.specs.Family.{AreCounted, AreGivenBut, IsAttributed
 ghost use Rattle.child_lists.specs.Family as family;
 
 use crate::place::{ChildPlace, list_of};
+use child_listing::kept_judging::pair_below;
+use child_listing::kept_state::{Governed, KeptState};
 use compiled_schema::Compiled;
 use content_models::ContentAutomaton;
 use doc_tree::DocTree;
-use child_listing::kept_judging::pair_below;
-use child_listing::kept_state::{Governed, KeptState};
 use model_lists::ListedChild;
 use std::alloc::AllocError;
 use xs_components::TermId;

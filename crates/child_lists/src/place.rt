@@ -7,11 +7,11 @@ ghost use Rattle.child_listing.specs.from_kept_records.Slots.{IsMade, kept_at};
 ghost use Rattle.child_lists.specs.Places.{IsPlaceOf};
 ghost use Rattle.child_lists.specs.Family as family;
 
+use child_listing::kept_records::model_of;
+use child_listing::kept_state::KeptState;
 use compiled_schema::Compiled;
 use content_models::ContentAutomaton;
 use doc_tree::DocTree;
-use child_listing::kept_records::model_of;
-use child_listing::kept_state::KeptState;
 use model_lists::ModelList;
 
 /// A child element, with its parent and its place among the child elements.

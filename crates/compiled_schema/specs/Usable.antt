@@ -7,18 +7,18 @@ use Rattle.xs_components.specs.declared.complex.ComplexType.{ComplexType}
 use Rattle.xs_components.specs.declared.element.ElementDecl.{ElementDecl}
 use Rattle.xs_components.specs.declared.simple.SimpleType.{SimpleType}
 use Rattle.xs_components.specs.Heads.{names_of}
-use Rattle.subst_groups.specs.Groups.{AreGroups}
+use Rattle.element_declarations.specs.Groups.{AreGroups}
 use Rattle.elem_governing.specs.View.{IsView}
 use Rattle.elem_assess.specs.Source.{IsSource}
 use Rattle.attr_assess.specs.Schema.{IsAttrSet}
 use Rattle.attr_assess.specs.Types.{IsTypeSet}
 use Rattle.attr_assess.specs.Added.{AreNamed as AreAttrsNamed}
-use Rattle.element_classes.specs.Classes.{AreClassesOf}
+use Rattle.element_declarations.specs.Classes.{AreClassesOf}
 use Rattle.content_models.specs.Built.{IsBuilt}
 use Rattle.content_models.specs.declared.automaton.ContentAutomaton.{ContentAutomaton}
-use Rattle.model_checks.specs.Checks.{IsAmbiguousModel}
+use Rattle.schema_models.specs.Checks.{IsAmbiguousModel}
 use Rattle.schema_models.specs.SetModels.{content_of}
-use Rattle.identity_paths.specs.Reads.{AreIdentities}
+use Rattle.xpath_subset.specs.Reads.{AreIdentities}
 use Rattle.assessment.specs.Attribution.{SchemaSet}
 use Rattle.compiled_schema.specs.declared.compiled.Compiled.{Compiled}
 

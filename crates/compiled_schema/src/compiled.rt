@@ -1,8 +1,8 @@
 use attr_uses::AttrTables;
 use component_tables::{ComponentNames, ContentTypes, Declarations};
-use identity_paths::IdentityPaths;
 use schema_models::Models;
 use simple_types::SimpleTypes;
+use xpath_subset::IdentityPaths;
 use xs_components::{Components, Members};
 use xs_names::Names;
 

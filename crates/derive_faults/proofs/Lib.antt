@@ -2,3 +2,8 @@ pub mod FaultLaws
 pub mod AttrLaws
 pub mod FaultlessLaws
 pub mod ExclusionLaws
+pub mod ValueLaws
+pub mod TextLaws
+pub mod IdLaws
+pub mod PartLaws
+pub mod CodeLaws

@@ -3,3 +3,11 @@ pub mod Finals
 pub mod AttrFaults
 pub mod Extensions
 pub mod Exclusions
+pub mod Values
+pub mod Texts
+pub mod Ids
+pub mod Emptiable
+pub mod Attributes
+pub mod Elements
+pub mod ValueFaults
+pub mod Given

@@ -17,7 +17,7 @@ use Rattle.simple_types.specs.Trees.{type_tree}
 use Rattle.simple_types.specs.SimpleTypes.{IsValueOf, IsWhole}
 use Rattle.simple_types.specs.declared.types.SimpleTypes.{SimpleTypes}
 use Rattle.simple_types.proofs.Valid.{one-outcome}
-use Rattle.element_classes.specs.Values.{text_type, outcome_key, IsTextKey}
+use Rattle.element_declarations.specs.Values.{text_type, outcome_key, IsTextKey}
 use Rattle.derive_models.specs.Fixed.{HasFixed}
 use Rattle.derive_models.specs.inside.Numbered.{AreRead, IsFixedKey}
 

@@ -3,7 +3,7 @@ use Rattle.std.specs.Prelude.{◌≡◌, ◌↔◌, ℕ, true, List, Option, Non
 use Rattle.xs_components.specs.Tables.{Tables}
 use Rattle.xs_components.specs.declared.common.ValueConstraint.{ValueConstraint}
 use Rattle.xs_components.specs.declared.element.ElementDecl.{ElementDecl}
-use Rattle.element_classes.specs.Values.{HasValue}
+use Rattle.element_declarations.specs.Values.{HasValue}
 use Rattle.simple_values.specs.Same.{same}
 use Rattle.simple_values.specs.declared.value.Value.{Value}
 

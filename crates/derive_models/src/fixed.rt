@@ -1,11 +1,11 @@
 //! The fixed value of an element declaration.
 
 ghost use Rattle.std.specs.Prelude.{◌≡◌, ◌<◌, length, IfOk};
-ghost use Rattle.element_classes.specs.Values.{read_type};
+ghost use Rattle.element_declarations.specs.Values.{read_type};
 ghost use Rattle.derive_models.specs.inside.Numbered as inside;
 
 use crate::set::ElementSet;
-use element_classes::{read_by, text_key};
+use element_declarations::{read_by, text_key};
 use simple_types::SimpleTypes;
 use simple_values::Key;
 use std::alloc::{AllocError, Global};

@@ -13,7 +13,7 @@ use Rattle.component_tables.specs.ContentTypes.{content_of}
 use Rattle.component_references.specs.Heights.{IsType}
 use Rattle.derive_restriction.specs.Contents.{IsTextDerived, IsOtherText, IsOverFilled, BreaksSimple, is_other, may_be_empty, is_mixed, BreaksModel, BreaksForm, BreaksContent, model_code}
 use Rattle.xs_codes.specs.declared.code.Code.TheVariants.{DerivationOkRestriction5_2, DerivationOkRestriction5_3, DerivationOkRestriction5_4_1}
-use Rattle.derive_values.specs.Emptiable.{has_emptiable_model}
+use Rattle.derive_faults.specs.Emptiable.{has_emptiable_model}
 use Rattle.component_tables.specs.declared.content_types.ContentType.{ContentType}
 use Rattle.component_tables.specs.declared.content_types.ContentType.TheVariants.{SimpleType, Empty, SimpleContent, ElementOnly, Mixed}
 use Rattle.derive_faults.specs.TypeFaults.{IsFirstCode, when}

@@ -21,9 +21,9 @@ use Rattle.derive_faults.specs.Finals.{no_methods}
 use Rattle.xs_codes.specs.declared.code.Code.TheVariants.{DerivationOkRestriction2_1_1, DerivationOkRestriction2_1_2, DerivationOkRestriction2_1_3}
 use Rattle.derive_faults.specs.TypeFaults.{IsFirstCode, earlier, when}
 use Rattle.derive_faults.proofs.FaultLaws.{earlier-first, both-first, first-same, when-true, when-first, when-refuted}
-use Rattle.derive_values.specs.Values.{effective, LosesFixed}
+use Rattle.derive_faults.specs.Values.{effective, LosesFixed}
 use Rattle.derive_restriction.specs.Uses.{Declared, declared, with_declaration, declared_at, use_for, is_admitted, IsLoosened, IsOtherType, IsFixedLost, three_codes, BreaksName, BreaksBelow, IsFoundBefore, numbers_left}
-use Rattle.derive_values.proofs.ValueLaws.{not-lost}
+use Rattle.derive_faults.proofs.ValueLaws.{not-lost}
 
 not-both : (b : Bool) → (b && not b) ≡ true → ⊥
 not-both true e = false≢true e

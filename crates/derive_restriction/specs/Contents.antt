@@ -17,7 +17,7 @@ use Rattle.type_derivation.specs.Chains.{Derives, DerivesFromMember}
 use Rattle.type_derivation.specs.Derives.{is_simple}
 use Rattle.derive_faults.specs.Finals.{no_methods}
 use Rattle.derive_faults.specs.TypeFaults.{when}
-use Rattle.derive_values.specs.Emptiable.{has_emptiable_model}
+use Rattle.derive_faults.specs.Emptiable.{has_emptiable_model}
 use Rattle.derive_restriction.specs.declared.texts.TextType.{TextType}
 use Rattle.derive_restriction.specs.declared.texts.TextStep.{TextStep}
 use Rattle.derive_restriction.specs.declared.texts.TextStep.TheVariants as steps

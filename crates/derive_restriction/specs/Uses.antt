@@ -16,7 +16,7 @@ use Rattle.type_derivation.specs.Chains.{Derives}
 use Rattle.derive_faults.specs.Finals.{no_methods}
 use Rattle.derive_faults.specs.TypeFaults.{when, earlier, IsFirstCode}
 use Rattle.derive_restriction.specs.declared.uses.DeclaredUse.{DeclaredUse}
-use Rattle.derive_values.specs.Values.{effective, LosesFixed}
+use Rattle.derive_faults.specs.Values.{effective, LosesFixed}
 
 -- an attribute use with its declaration
 pub record Declared : Type 0 where

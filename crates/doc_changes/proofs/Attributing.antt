@@ -7,8 +7,7 @@ use Rattle.std.proofs.lemmas.Bool.{or_parts, or_left, eq-eqb, eqb-true, ne_eqb, 
 use Rattle.std.proofs.lemmas.Iterator.Adapters.{position_from-zero}
 use Rattle.std.proofs.lemmas.List.Elements.{All-head, All-tail}
 use Rattle.std.proofs.lemmas.Option.{slice_get-get_or}
-use Rattle.xs_names.specs.Names.{NameTable, absent_space, space_of, local_of}
-use Rattle.xs_names.specs.Names.{IsSound as AreNames}
+use Rattle.xs_names.specs.Names.{NameTable, absent_space, space_of, local_of, IsSound as AreNames}
 use Rattle.xs_names.proofs.NumberingLaws.{list_any-absent}
 use Rattle.tree_rows.specs.Naming.{same_name}
 use Rattle.tree_edits.specs.Changes.{set_in, unset_in}

@@ -2,11 +2,9 @@
 use Rattle.std.proofs.Common.{◌≡◌, ℕ, ◌<◌, List, [], ◌∷◌, length, map, sym, ap, ◌∙◌, subst, Bool, true, false, ◌==◌, if◌then◌else◌, Option, Some, None, refl, inl, inr, arith}
 use Rattle.std.specs.Option.{option_map}
 use Rattle.std.proofs.lemmas.Bool.{eq-eqb, true≢false}
-use Rattle.std.proofs.lemmas.Option.{same_Some, none-some}
+use Rattle.std.proofs.lemmas.Option.{same_Some, none-some, slice_get-get_or}
 use Rattle.std.specs.Prelude.{slice_get, slice_index_or}
-use Rattle.std.proofs.lemmas.Option.{slice_get-get_or}
-use Rattle.xs_names.specs.Names.{NameTable, absent_space, first_spaces, space_of, local_of}
-use Rattle.xs_names.specs.Names.{IsSound as AreNames}
+use Rattle.xs_names.specs.Names.{NameTable, absent_space, first_spaces, space_of, local_of, IsSound as AreNames}
 use Rattle.xs_names.proofs.NumberingLaws.{slice_get-Begins}
 use Rattle.tree_rows.specs.Forest.{Forest, none, text, element, Document, count, deepest_of}
 use Rattle.tree_rows.specs.Whole.{times, AreNodes, HasRoot, IsNamed, IsNamespace}

@@ -5,3 +5,16 @@ pub mod Changing
 pub mod Holding
 pub mod Attributing
 pub mod Attributed
+pub mod Levels
+pub mod Named
+pub mod Reading
+pub mod PlantedNames
+pub mod Numbering
+pub mod Growth
+pub mod Pruning
+pub mod Rooting
+pub mod Placing
+pub mod Inserting
+pub mod Alike
+pub mod Spread
+pub mod Known

@@ -1,3 +1,9 @@
 pub mod Stands
 pub mod Held
 pub mod Parts
+pub mod Documents
+pub mod Readers
+pub mod Fits
+pub mod Planted
+pub mod Named
+pub mod inside

@@ -7,8 +7,7 @@ use Rattle.tree_rows.specs.declared.name.Expanded.{Expanded}
 use Rattle.tree_rows.specs.declared.row.Attribute.{Attribute}
 use Rattle.tree_rows.specs.declared.row.Binding.{Binding}
 use Rattle.tree_edits.specs.Edits.{has}
-use Rattle.doc_nodes.specs.Nodes.{Node, Nodes, IsNode}
-use Rattle.doc_nodes.specs.Nodes.{IsSound as AreSound}
+use Rattle.doc_nodes.specs.Nodes.{Node, Nodes, IsNode, IsSound as AreSound}
 use Rattle.doc_nodes.specs.declared.content.Content.TheVariants as contents
 use Rattle.doc_nodes.specs.declared.content.Element.{Element}
 use Rattle.doc_nodes.specs.declared.content.NameAttribute.{NameAttribute}

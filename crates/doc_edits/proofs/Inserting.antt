@@ -21,7 +21,7 @@ use Rattle.tree_edits.specs.declared.edit.EditError.{EditError}
 use Rattle.tree_edits.specs.declared.edit.EditError.TheVariants.{TooManyAttributes, DoubleAttribute}
 use Rattle.tree_edits.specs.declared.names.BlockNames.{BlockNames}
 use Rattle.tree_edits.proofs.Inserting.{why_is, limit_is}
-use Rattle.block_trees.proofs.Trees.{block_tree}
+use Rattle.tree_edits.proofs.Trees.{block_tree}
 use Rattle.doc_edits.specs.inside.Tested.{HasRoom}
 
 -- what an insertion comes to, by its parts

@@ -4,3 +4,5 @@ pub mod Naming
 pub mod Inserting
 pub mod Preparing
 pub mod Making
+pub mod Own
+pub mod Inverse

@@ -21,17 +21,17 @@ use Rattle.tree_edits.specs.Edits.{Found, found}
 use Rattle.tree_edits.proofs.Lying.{Lies, lies}
 use Rattle.tree_edits.specs.Tests.{attributes_of, bindings_of, has_attribute, is_full}
 use Rattle.tree_edits.proofs.Attributing.{same_name_is, room_left, room_own, no_room}
-use Rattle.tree_names.specs.Numbers.{space_in, name_in}
-use Rattle.tree_names.specs.Found.{HasSpace, HasName}
-use Rattle.tree_names.specs.Table.{with_expanded}
-use Rattle.tree_names.proofs.Numbers.{number_there, else_number, name_within, has_expanded}
-use Rattle.tree_names.proofs.Staying.{expanded_stays}
+use Rattle.plain_tree.specs.Numbers.{space_in, name_in}
+use Rattle.plain_tree.specs.Found.{HasSpace, HasName}
+use Rattle.plain_tree.specs.Table.{with_expanded}
+use Rattle.plain_tree.proofs.Numbers.{number_there, else_number, name_within, has_expanded}
+use Rattle.plain_tree.proofs.Staying.{expanded_stays}
 use Rattle.doc_nodes.specs.Nodes.{Node, Nodes}
 use Rattle.doc_nodes.specs.declared.content.Content.{Content}
 use Rattle.doc_nodes.specs.declared.content.NameAttribute.{NameAttribute}
 use Rattle.doc_changes.specs.Stands.{StandsFor, namespace_of, expanded_of, attribute_of, binding_of}
 use Rattle.doc_changes.specs.Held.{kind_at, attributes_at, attributes_by, attributes_in, bindings_at, bindings_by, bindings_in, has_number}
-use Rattle.doc_documents.proofs.Named.{has_number as number_has_name}
+use Rattle.doc_changes.proofs.Named.{has_number as number_has_name}
 use Rattle.doc_edits.specs.inside.Tested.{IsAmong, IsThere, IsSettable}
 use Rattle.doc_edits.proofs.Placing.{own}
 

@@ -24,11 +24,11 @@ use Rattle.tree_edits.specs.declared.edit.EditError.{EditError}
 use Rattle.tree_edits.specs.declared.edit.EditError.TheVariants.{Memory, NoSuchAttribute, TooManyAttributes}
 use Rattle.tree_edits.proofs.Inserting.{why_is, why_but_memory, why_of}
 use Rattle.tree_edits.proofs.Testing.{edit_tested}
-use Rattle.tree_names.specs.Table.{with_expanded, document_table}
-use Rattle.tree_names.specs.Numbers.{name_in}
-use Rattle.tree_names.specs.Found.{HasName, HasNames}
-use Rattle.tree_names.proofs.Numbers.{has_expanded, name_within}
-use Rattle.tree_names.proofs.Tables.{found as names_found}
+use Rattle.plain_tree.specs.Table.{with_expanded, document_table}
+use Rattle.plain_tree.specs.Numbers.{name_in}
+use Rattle.plain_tree.specs.Found.{HasName, HasNames}
+use Rattle.plain_tree.proofs.Numbers.{has_expanded, name_within}
+use Rattle.plain_tree.proofs.Tables.{found as names_found}
 use Rattle.doc_nodes.specs.Nodes.{Nodes}
 use Rattle.doc_changes.specs.Stands.{StandsFor, expanded_of}
 use Rattle.doc_changes.specs.Held.{kind_at}

@@ -16,10 +16,10 @@ use Rattle.doc_nodes.specs.declared.content.Element.{Element}
 use Rattle.doc_changes.specs.Parts.{IsOver, Prunes}
 use Rattle.doc_changes.specs.Stands.{StandsFor, expanded_of}
 use Rattle.doc_changes.specs.Held.{kind_at, parent_at, attributes_at, has_number, set_number, unset_number, HasRoom}
-use Rattle.doc_planting.specs.Fits.{Fits}
-use Rattle.doc_planting.specs.Planted.{Plants}
-use Rattle.tree_names.specs.Found.{HasNames}
-use Rattle.edit_names.specs.Names.{table_with}
+use Rattle.doc_changes.specs.Fits.{Fits}
+use Rattle.doc_changes.specs.Planted.{Plants}
+use Rattle.plain_tree.specs.Found.{HasNames}
+use Rattle.plain_tree.specs.Names.{table_with}
 use Rattle.doc_edits.specs.declared.change.Change.{Change}
 use Rattle.doc_edits.specs.declared.change.Change.TheVariants as changes
 

@@ -22,10 +22,9 @@ use crate::names::{attribute_named, element_named, find_name, one_more, scope_in
 use crate::places::{child_here, element_here, fit, place_here, text_here};
 use doc_tree::DocTree;
 use item_listing::Item;
-use plain_tree::Tree;
+use plain_tree::{Tree, add_name, add_names};
 use std::alloc::Global;
 use tree_edits::{Edit, EditError};
-use tree_names::{add_name, add_names};
 use tree_rows::Expanded;
 use xs_names::{NameId, Names, Text};
 

@@ -12,8 +12,8 @@ use Rattle.doc_nodes.specs.declared.content.Content.{Content}
 use Rattle.doc_nodes.specs.declared.content.Content.TheVariants as contents
 use Rattle.doc_nodes.specs.declared.content.Element.{Element}
 use Rattle.doc_changes.specs.Held.{name_in, attributes_in, attributes_by, bindings_in, bindings_by}
-use Rattle.doc_documents.specs.Readers.{name_by, name_at}
-use Rattle.doc_heads.specs.Heads.{text_named, pair_of, IsHeadAt}
+use Rattle.doc_changes.specs.Readers.{name_by, name_at}
+use Rattle.doc_readers.specs.Heads.{text_named, pair_of, IsHeadAt}
 
 -- the node holds this of an element
 pub record IsHeld (o : Option Node) (e : Element) : Type 0 where

@@ -4,8 +4,8 @@ ghost use Rattle.std.specs.Prelude.{◌≡◌, ◌∷◌, [], ◌++◌, filter, 
 ghost use Rattle.tree_rows.specs.declared.row.NodeKind.TheVariants as kinds;
 ghost use Rattle.doc_nodes.specs.Nodes.{element_children, is_element_at};
 ghost use Rattle.doc_changes.specs.Held.{kind_at};
-ghost use Rattle.doc_documents.specs.Readers.{name_at};
-ghost use Rattle.doc_heads.specs.Heads.{IsHeadAt, text_named, pair_of};
+ghost use Rattle.doc_changes.specs.Readers.{name_at};
+ghost use Rattle.doc_readers.specs.Heads.{IsHeadAt, text_named, pair_of};
 
 use assess_records::{NamedText, NamedTextList};
 use doc_nodes::{Content, Element, NameAttribute, NameBinding};

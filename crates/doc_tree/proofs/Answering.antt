@@ -24,8 +24,7 @@ use Rattle.doc_nodes.specs.Nodes as links
 use Rattle.doc_nodes.specs.declared.content.Content as links_content
 use Rattle.doc_changes.specs.Stands.{firsts, StandsFor, expanded_of, attribute_of, binding_of}
 use Rattle.doc_changes.proofs.Lain.{at, depth_at}
-use Rattle.doc_changes.specs.Held.{bindings_by as held_bindings}
-use Rattle.doc_changes.specs.Held.{kind_in, name_in, chars_in, attributes_in, bindings_in}
+use Rattle.doc_changes.specs.Held.{bindings_by as held_bindings, kind_in, name_in, chars_in, attributes_in, bindings_in}
 use Rattle.doc_tree.specs.Readers.{parent_of, children_by, children_of}
 use Rattle.doc_tree.proofs.Reading.{Shows, IsRead, absent, read, kind_by, kind_read, Under, parent_read, parent_absent, number_read}
 

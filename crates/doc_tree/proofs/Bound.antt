@@ -7,8 +7,8 @@ use Rattle.doc_nodes.specs.declared.content.Content.{Content}
 use Rattle.doc_nodes.specs.declared.content.NameBinding.{NameBinding}
 use Rattle.doc_nodes.specs.Nodes.{Node, Nodes, node, IsSound}
 use Rattle.doc_changes.specs.Held.{parent_at, bindings_in}
-use Rattle.doc_documents.specs.Readers.{own_scope, scope_at}
-use Rattle.doc_documents.proofs.Reading.{scope_below, scope_root, depth_below}
+use Rattle.doc_changes.specs.Readers.{own_scope, scope_at}
+use Rattle.doc_changes.proofs.Reading.{scope_below, scope_root, depth_below}
 use Rattle.doc_tree.proofs.Answering.{by_bindings}
 
 -- what a node binds is what its content does

@@ -21,13 +21,13 @@ use Rattle.doc_changes.proofs.Changing.{own_below, is_over, placed}
 use Rattle.doc_changes.proofs.Holding.{HoldsElement}
 use Rattle.doc_changes.proofs.Lain.{at, lain, apart}
 use Rattle.doc_changes.proofs.Standing.{has_times, no_times}
-use Rattle.doc_planting.specs.Fits.{Fits}
-use Rattle.tree_inverses.specs.Changes as law
-use Rattle.doc_inverses.specs.Changes.{Means, put_count}
-use Rattle.doc_inverses.specs.declared.change.Change.{Change}
-use Rattle.doc_inverses.specs.declared.change.Change.TheVariants as changes
-use Rattle.doc_inverses.proofs.Counted.{nodes_counted}
-use Rattle.doc_inverses.proofs.Rows.{rows_front}
+use Rattle.doc_changes.specs.Fits.{Fits}
+use Rattle.tree_edits.specs.Inverses as law
+use Rattle.doc_tree.specs.Changes.{Means, put_count}
+use Rattle.doc_tree.specs.declared.change.Change.{Change}
+use Rattle.doc_tree.specs.declared.change.Change.TheVariants as changes
+use Rattle.doc_tree.proofs.Counted.{nodes_counted}
+use Rattle.doc_tree.proofs.InverseRows.{rows_front}
 use Rattle.doc_tree.specs.Counted.{live_count}
 use Rattle.doc_tree.proofs.Answering.{no_such}
 

@@ -1,3 +1,15 @@
+pub mod InverseRows
+pub mod RowsPut
+pub mod RowsRead
+pub mod Seated
+pub mod Grafting
+pub mod Grafts
+pub mod Numbers
+pub mod Writes
+pub mod Own
+pub mod Meaning
+pub mod Leading
+pub mod Counted
 pub mod Below
 pub mod Reading
 pub mod Answering

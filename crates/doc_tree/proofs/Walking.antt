@@ -1,15 +1,11 @@
 -- What is found from a node upwards is what the tree says.
 use Rattle.std.proofs.Common.{◌≡◌, ℕ, zero, suc, ◌+◌, ◌<◌, List, [], ◌∷◌, ◌++◌, length, map, drop, sym, ap, ◌∙◌, subst, Bool, true, false, ◌==◌, ◌||◌, if◌then◌else◌, Option, Some, None, refl, inl, inr, arith, All}
 use Rattle.std.proofs.lemmas.List.Elements.{All-head, All-tail}
-use Rattle.std.specs.Prelude.{slice_get, find}
-use Rattle.std.specs.Option.{option_or, option_and_then}
+use Rattle.std.specs.Prelude.{slice_get, find, codes, IfSome}
+use Rattle.std.specs.Option.{option_or, option_and_then, is_some, option_map}
 use Rattle.std.proofs.lemmas.Bool.{or_parts, or_cases, eq-eqb, eqb-true, false≢true, true≢false}
-use Rattle.std.proofs.lemmas.Option.{same_Some, none-some, slice_get_past}
-use Rattle.std.specs.Prelude.{codes, IfSome}
-use Rattle.std.specs.Option.{is_some, option_map}
-use Rattle.std.proofs.lemmas.Option.{get_or_from_slice_get}
-use Rattle.xs_names.specs.Names.{NameTable, xml_name, first_spaces}
-use Rattle.xs_names.specs.Names.{IsSound as AreNames}
+use Rattle.std.proofs.lemmas.Option.{same_Some, none-some, slice_get_past, get_or_from_slice_get}
+use Rattle.xs_names.specs.Names.{NameTable, xml_name, first_spaces, IsSound as AreNames}
 use Rattle.xs_names.specs.Scope as numbered
 use Rattle.xs_names.proofs.NumberingLaws.{slice_get-Begins}
 use Rattle.doc_nodes.specs.declared.content.Content as links_content

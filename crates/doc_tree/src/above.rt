@@ -10,7 +10,7 @@ ghost use Rattle.doc_nodes.specs.Nodes.{Node, IsSound, IsNode, IsChildAt, is_ele
 ghost use Rattle.doc_nodes.specs.Nodes as nodes;
 ghost use Rattle.doc_changes.specs.Held.{parent_at, bindings_at};
 ghost use Rattle.doc_changes.specs.Stands.{StandsFor, binding_of};
-ghost use Rattle.doc_documents.specs.Readers.{own_scope, scope_at};
+ghost use Rattle.doc_changes.specs.Readers.{own_scope, scope_at};
 ghost use Rattle.doc_tree.specs.Following.{past_of};
 
 use crate::contents::bindings_of;

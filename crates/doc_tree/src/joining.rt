@@ -2,7 +2,7 @@
 
 ghost use Rattle.std.specs.Prelude.{◌≡◌, [], flat_map, unwrap_or, IfOk};
 ghost use Rattle.std.specs.Option.{option_copied};
-ghost use Rattle.doc_documents.specs.Readers.{chars_at};
+ghost use Rattle.doc_changes.specs.Readers.{chars_at};
 
 use crate::contents::text_in;
 use doc_nodes::NodeLinks;

@@ -2,16 +2,17 @@
 
 ghost use Rattle.std.specs.Prelude.{◌≡◌, ◌≢◌, ◌<◌, ◌^◌, ℕ, All, length, map, filter, take, slice_get, true, Some, None, IfSome, IfOk, OnOk, OnErr};
 ghost use Rattle.std.specs.Option.{option_map, option_and_then, option_copied};
-ghost use Rattle.doc_inverses.specs.Changes.{put_count};
+ghost use Rattle.doc_tree.specs.Changes.{put_count};
 
 use crate::above::{bind_above, element_past, elements_before, scope_upwards};
 use crate::contents::{attribute_in, count_bindings, kind_in, name_in, text_in};
 use crate::joining::texts_of;
-use crate::read_tree;
-use doc_changes::{remove_node, rename_node, set_attribute, set_text, unset_attribute};
-use doc_inverses::{Change, make_change, put_back_of};
+use crate::{Change, make_change, put_back_of, read_tree};
+use doc_changes::{
+    add_text, insert_part, nodes_of, remove_node, rename_node, set_attribute, set_text,
+    unset_attribute,
+};
 use doc_nodes::{Content, NodeLinks};
-use doc_planting::{add_text, insert_part, nodes_of};
 use plain_tree::Tree;
 use std::alloc::{AllocError, Global};
 use std::marker::Model;
@@ -59,11 +60,11 @@ impl DocTree {
     ghost use Rattle.tag_names.specs.Scopes.{binding_in, first_scope};
     ghost use Rattle.tree_edits.specs.Edits.{scope_in, found};
     ghost use Rattle.tree_rows.specs.Forest.{Forest, none, text as text_node, Document, count};
-    ghost use Rattle.doc_planting.specs.Fits.{Fits};
-    ghost use Rattle.doc_planting.specs.Planted.{Plants};
+    ghost use Rattle.doc_changes.specs.Fits.{Fits};
+    ghost use Rattle.doc_changes.specs.Planted.{Plants};
     ghost use Rattle.xs_names.specs.Names.{Grown};
     ghost use Rattle.xs_names.specs.Names.{IsSound as AreNames};
-    ghost use Rattle.tree_names.specs.Found.{HasNames};
+    ghost use Rattle.plain_tree.specs.Found.{HasNames};
     ghost use Rattle.tree_rows.specs.Kinds.{kind_of};
     ghost use Rattle.xs_names.specs.Names.{NameTable};
     ghost use Rattle.doc_changes.specs.Held as held;
@@ -78,12 +79,12 @@ impl DocTree {
     ghost use Rattle.doc_nodes.specs.Nodes.{IsNode, IsChildAt, Holds};
     ghost use Rattle.doc_tree.specs.Readers.{parent_of, children_of};
     ghost use Rattle.doc_changes.specs.Stands.{StandsFor, expanded_of};
-    ghost use Rattle.doc_documents.specs.Readers.{own_chars, scope_at as bound_at};
+    ghost use Rattle.doc_changes.specs.Readers.{own_chars, scope_at as bound_at};
     ghost use Rattle.doc_tree.specs.Counted.{live_count};
     ghost use Rattle.doc_tree.specs.Following.{next_of};
-    ghost use Rattle.tree_inverses.specs.Changes as law;
-    ghost use Rattle.doc_inverses.specs.Changes.{Means};
-    ghost use Rattle.doc_inverses.specs.Changes as numbered;
+    ghost use Rattle.tree_edits.specs.Inverses as law;
+    ghost use Rattle.doc_tree.specs.Changes.{Means};
+    ghost use Rattle.doc_tree.specs.Changes as numbered;
 
     /// A document of the nodes of a plain tree, which keep their numbers. Names that `names` lacks are added to it;
     /// where it has them all, it stays as it is.

@@ -3,7 +3,7 @@
 use Rattle.std.specs.Prelude.{◌≡◌, ℕ, ◌+◌, ◌*◌, max, Bool, true, false, List, Option, None, Some, if◌then◌else◌, refl}
 use Rattle.child_trees.specs.Bits.{bits}
 use Rattle.tree_rows.specs.Forest.{Forest, none, text, element, Document, count}
-use Rattle.tree_names.specs.Numbers.{name_in}
+use Rattle.plain_tree.specs.Numbers.{name_in}
 use Rattle.tree_edits.specs.Edits.{Found, found, has, width}
 use Rattle.tree_edits.specs.Tests.{width_of}
 use Rattle.tree_edits.specs.declared.edit.Edit.{Edit}
@@ -12,8 +12,8 @@ use Rattle.elem_governing.specs.Derived.{same_type}
 use Rattle.elem_governing.specs.declared.pairs.Governing.{Governing}
 use Rattle.assessment.specs.Attribution.{SchemaSet, content_particle}
 use Rattle.assessment.specs.Assessment.{Entry}
-use Rattle.governing_laws.specs.Governed.{governing_at}
-use Rattle.governing_laws.specs.Ambivalent.{is_ambivalent}
+use Rattle.assessment_laws.specs.Governed.{governing_at}
+use Rattle.assessment_laws.specs.Ambivalent.{is_ambivalent}
 use Rattle.edit_budgets.specs.Lists.{edited_list}
 
 -- ---- the changed list

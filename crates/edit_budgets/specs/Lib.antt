@@ -1,3 +1,4 @@
 pub mod Lists
 pub mod Budget
 pub mod Examples
+pub mod UndoBudget

@@ -16,7 +16,7 @@ use Rattle.session_model.specs.declared.session.SessionError.TheVariants.{Refuse
 use Rattle.session_model.specs.State.{State, IsOpened, with_names, next_revision, after_edit}
 use Rattle.doc_nodes.specs.Nodes.{Nodes}
 use Rattle.doc_changes.specs.Stands.{StandsFor}
-use Rattle.doc_documents.proofs.Levels.{document_is}
+use Rattle.doc_changes.proofs.Levels.{document_is}
 use Rattle.kept_inverses.specs.from_kept_state.KeptState.{KeptState}
 use Rattle.edit_session.specs.Costs.{edit_cost}
 use Rattle.edit_session.specs.Edited.{IsDone, IsLeft}

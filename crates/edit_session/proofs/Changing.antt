@@ -2,7 +2,7 @@
 use Rattle.std.proofs.Common.{◌≡◌, ◌⊎◌, ℕ, ◌≤◌, Bool, sym, subst, inl, inr, arith}
 use Rattle.std.specs.Prelude.{false}
 use Rattle.tree_rows.specs.Forest.{Document}
-use Rattle.tree_inverses.specs.Changes as law
+use Rattle.tree_edits.specs.Inverses as law
 use Rattle.compiled_schema.specs.Usable.{set_of}
 use Rattle.compiled_schema.specs.declared.compiled.Compiled.{Compiled}
 use Rattle.what_is_found.specs.IsFound.{IsFound}
@@ -10,9 +10,9 @@ use Rattle.session_model.specs.Spending.{Counts}
 use Rattle.session_model.specs.State.{State, next_revision}
 use Rattle.doc_nodes.specs.Nodes.{Nodes}
 use Rattle.doc_changes.specs.Stands.{StandsFor}
-use Rattle.doc_documents.proofs.Levels.{document_is}
-use Rattle.doc_inverses.specs.Changes.{Means}
-use Rattle.doc_inverses.specs.declared.change.Change.{Change}
+use Rattle.doc_changes.proofs.Levels.{document_is}
+use Rattle.doc_tree.specs.Changes.{Means}
+use Rattle.doc_tree.specs.declared.change.Change.{Change}
 use Rattle.kept_inverses.specs.from_kept_state.KeptState.{KeptState}
 use Rattle.kept_inverses.specs.from_kept_children.Edited.{IsRightFor}
 use Rattle.kept_inverses.specs.Steps.{TakesInverse}

@@ -13,9 +13,9 @@ use Rattle.assessment.specs.Assessment.{Entry, Assessed, Beside, entries, IsAsse
 use Rattle.assessment.specs.Local.{HasElement}
 use Rattle.assessment.specs.Attribution.{SchemaSet}
 use Rattle.compiled_schema.specs.Usable.{IsUsable, set_of}
-use Rattle.tree_names.specs.Found.{HasNames}
-use Rattle.identity_assessment.specs.Identity.{beside_of}
-use Rattle.doc_documents.proofs.Named.{has_names}
+use Rattle.plain_tree.specs.Found.{HasNames}
+use Rattle.what_is_found.specs.Identity.{beside_of}
+use Rattle.doc_changes.proofs.Named.{has_names}
 use Rattle.compiled_schema.specs.declared.compiled.Compiled.{Compiled}
 use Rattle.tree_assess.specs.Entries.{entry_of}
 use Rattle.what_is_found.specs.IsFound.{IsFound}

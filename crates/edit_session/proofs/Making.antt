@@ -11,14 +11,14 @@ use Rattle.assessment.specs.Attribution.{SchemaSet}
 use Rattle.compiled_schema.specs.Usable.{set_of}
 use Rattle.compiled_schema.specs.declared.compiled.Compiled.{Compiled}
 use Rattle.edit_budgets.specs.Budget.{edit_budget}
-use Rattle.edit_names.proofs.Edited.{table_after}
+use Rattle.plain_tree.proofs.Edited.{table_after}
 use Rattle.what_is_found.specs.IsFound.{IsFound}
 use Rattle.session_model.specs.Spending.{BreaksWithin}
 use Rattle.session_model.specs.State.{State, with_names}
 use Rattle.doc_nodes.specs.Nodes.{Nodes}
 use Rattle.doc_changes.specs.Stands.{StandsFor}
-use Rattle.doc_documents.proofs.Levels.{document_is}
-use Rattle.doc_documents.proofs.Named.{has_names, stands_grown}
+use Rattle.doc_changes.proofs.Levels.{document_is}
+use Rattle.doc_changes.proofs.Named.{has_names, stands_grown}
 use Rattle.doc_edits.specs.Changes.{IsPrepared, changed}
 use Rattle.doc_edits.specs.Changes as prepared
 use Rattle.doc_edits.specs.declared.change.Change.{Change}

@@ -15,7 +15,7 @@ use Rattle.tree_rows.specs.Forest.{Forest, none, text, element, Document}
 use Rattle.tree_rows.specs.Kinds.{kind_of}
 use Rattle.tree_rows.specs.declared.row.NodeKind.{NodeKind}
 use Rattle.tree_rows.specs.declared.row.NodeKind.TheVariants as kinds
-use Rattle.tree_names.specs.Numbers.{name_in}
+use Rattle.plain_tree.specs.Numbers.{name_in}
 use Rattle.tree_edits.specs.Edits.{Found, found, width}
 use Rattle.content_automaton.specs.Symbols.{symbol_of}
 use Rattle.content_automaton.specs.Terms.{ExpandedName, name_at}
@@ -37,8 +37,8 @@ use Rattle.doc_changes.specs.Held.{kind_in, kind_at}
 use Rattle.doc_changes.specs.Held as held
 use Rattle.doc_changes.specs.Stands.{firsts, IsText, IsElement, StandFor, StandsFor}
 use Rattle.doc_changes.proofs.Holding.{IsElementOf, element_of, holds_element}
-use Rattle.doc_documents.specs.Readers as readers
-use Rattle.doc_documents.proofs.Named.{name_back}
+use Rattle.doc_changes.specs.Readers as readers
+use Rattle.doc_changes.proofs.Named.{name_back}
 use Rattle.doc_tree.proofs.Answering.{kind_is}
 use Rattle.doc_edits.proofs.Placing.{width_firsts}
 use Rattle.kept_slots.specs.Slots.{at}

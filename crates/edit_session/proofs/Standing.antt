@@ -6,7 +6,7 @@ use Rattle.compiled_schema.specs.declared.compiled.Compiled.{Compiled}
 use Rattle.what_is_found.specs.IsFound.{IsFound}
 use Rattle.doc_nodes.specs.Nodes.{Nodes}
 use Rattle.doc_changes.specs.Stands.{StandsFor}
-use Rattle.doc_documents.proofs.Levels.{document_is}
+use Rattle.doc_changes.proofs.Levels.{document_is}
 use Rattle.kept_inverses.specs.from_kept_records.Found.{IsOver, AreSettled, SaysFound}
 use Rattle.kept_inverses.proofs.from_kept_records.Said.{is-found}
 use Rattle.kept_inverses.specs.from_kept_state.KeptState.{KeptState}

@@ -7,7 +7,7 @@ use Rattle.tree_rows.specs.Forest.{Forest, none, text, element, Document}
 use Rattle.tree_rows.specs.Kinds.{kind_of}
 use Rattle.tree_rows.specs.declared.row.NodeKind.{NodeKind}
 use Rattle.tree_rows.specs.declared.row.NodeKind.TheVariants as kinds
-use Rattle.tree_names.specs.Numbers.{name_in}
+use Rattle.plain_tree.specs.Numbers.{name_in}
 use Rattle.doc_nodes.specs.Nodes.{Nodes, node as node_at, children_by as children_of_node}
 use Rattle.doc_changes.specs.Held.{kind_at}
 use Rattle.tree_edits.specs.Edits.{Found, found, width}

@@ -8,10 +8,10 @@ use Rattle.session_model.specs.State.{State, next_revision}
 use Rattle.session_model.specs.Spending.{Counts}
 use Rattle.session_model.specs.declared.session.SessionError.{SessionError}
 use Rattle.session_model.specs.declared.session.SessionError.TheVariants as errors
-use Rattle.tree_inverses.specs.Changes.{Change, changed, Fits}
+use Rattle.tree_edits.specs.Inverses.{Change, changed, Fits}
 use Rattle.doc_nodes.specs.Nodes.{Nodes}
-use Rattle.doc_inverses.specs.Changes.{Means}
-use Rattle.doc_inverses.specs.declared.change.Change as numbered
+use Rattle.doc_tree.specs.Changes.{Means}
+use Rattle.doc_tree.specs.declared.change.Change as numbered
 use Rattle.kept_inverses.specs.from_kept_state.KeptState.{KeptState}
 use Rattle.edit_session.specs.Costs.{change_cost}
 use Rattle.edit_session.specs.Held.{document_in, IsPresent}

@@ -4,8 +4,8 @@ use Rattle.tree_rows.specs.Forest.{Document}
 use Rattle.tree_edits.specs.declared.edit.Edit.{Edit}
 use Rattle.session_model.specs.State.{State}
 use Rattle.edit_budgets.specs.Budget.{edit_budget, opening_budget}
-use Rattle.tree_inverses.specs.Changes.{Change}
-use Rattle.undo_budgets.specs.Budget.{change_budget}
+use Rattle.tree_edits.specs.Inverses.{Change}
+use Rattle.edit_budgets.specs.UndoBudget.{change_budget}
 
 -- by what is found before and after it
 abbrev pub edit_cost : State → Edit → State → ℕ

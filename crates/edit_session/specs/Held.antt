@@ -7,7 +7,7 @@ use Rattle.compiled_schema.specs.declared.compiled.Compiled.{Compiled}
 use Rattle.session_model.specs.State.{State}
 use Rattle.doc_nodes.specs.Nodes.{Nodes}
 use Rattle.doc_changes.specs.Stands.{StandsFor}
-use Rattle.doc_documents.specs.Documents.{document_of}
+use Rattle.doc_changes.specs.Documents.{document_of}
 use Rattle.kept_inverses.specs.from_kept_records.Found.{SaysFound, found_in}
 use Rattle.kept_inverses.specs.from_kept_state.KeptState.{KeptState}
 use Rattle.kept_keys.specs.Keys.{IsWhole}

@@ -14,9 +14,8 @@ use doc_tree::DocTree;
 use kept_below::open_records;
 use kept_inverses::kept_state::KeptState;
 use kept_keys::settle_keys;
-use plain_tree::Tree;
+use plain_tree::{Tree, add_names, document_names_are_found};
 use std::alloc::{AllocError, Global};
-use tree_names::{add_names, document_names_are_found};
 use xs_names::NsId;
 use xsv_steps::{Ledger, Steps};
 

@@ -7,8 +7,7 @@ use crate::reopening::reopen_document;
 use crate::undoing::change_kept;
 use assess_records::Validity;
 use compiled_schema::Compiled;
-use doc_inverses::Change;
-use doc_tree::DocTree;
+use doc_tree::{Change, DocTree};
 use kept_inverses::kept_state::KeptState;
 use kept_next::AroundAt;
 use plain_tree::Tree;
@@ -52,9 +51,9 @@ impl EditSession {
     ghost use Rattle.edit_session.specs.Around.{IsAroundAt, asked_at};
     ghost use Rattle.edit_session.specs.declared.around.AroundError.TheVariants.{Memory};
     ghost use Rattle.tree_edits.specs.Edits.{can_be_made};
-    ghost use Rattle.tree_inverses.specs.Changes as law;
-    ghost use Rattle.tree_inverses.specs.Edits.{change_of};
-    ghost use Rattle.doc_inverses.specs.Changes.{Means};
+    ghost use Rattle.tree_edits.specs.Inverses as law;
+    ghost use Rattle.tree_edits.specs.EditChanges.{change_of};
+    ghost use Rattle.doc_tree.specs.Changes.{Means};
     ghost use Rattle.session_model.specs.Applying.{Applies};
     ghost use Rattle.session_model.specs.Spending.{Spends};
     ghost use Rattle.edit_session.specs.Costs.{edit_cost};
@@ -162,13 +161,7 @@ impl EditSession {
             return Err(SessionError::Closed);
         }
         let mut set = set;
-        match reopen_document(
-            self.kept.alloc,
-            &self.doc,
-            &self.set.names,
-            &mut set,
-            steps,
-        ) {
+        match reopen_document(self.kept.alloc, &self.doc, &self.set.names, &mut set, steps) {
             Ok(opened) => {
                 self.set = set;
                 self.doc = opened.doc;

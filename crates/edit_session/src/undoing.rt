@@ -1,14 +1,13 @@
 //! A change that undoes another, with all that is kept of a document's elements.
 
 ghost use Rattle.std.specs.Prelude.{◌≡◌, ◌≤◌, ℕ, Bool, IfOk, OnOk};
-ghost use Rattle.tree_inverses.specs.Changes as law;
-ghost use Rattle.doc_inverses.specs.Changes.{Means};
+ghost use Rattle.tree_edits.specs.Inverses as law;
+ghost use Rattle.doc_tree.specs.Changes.{Means};
 ghost use Rattle.edit_session.specs.Held.{IsPresent, Stands, document_in, state_by};
 ghost use Rattle.edit_session.specs.Changed.{IsReached, TakesWithin};
 
 use compiled_schema::Compiled;
-use doc_inverses::Change;
-use doc_tree::DocTree;
+use doc_tree::{Change, DocTree};
 use kept_inverses::keep_inverse;
 use kept_inverses::kept_state::KeptState;
 use kept_keys::settle_keys;

@@ -6,7 +6,7 @@ use Rattle.xs_names.specs.Names.{NameTable, absent_space, space_number, name_num
 use Rattle.xs_names.proofs.NumberingLaws.{with_item-old}
 use Rattle.tree_rows.specs.declared.name.Expanded.{Expanded}
 use Rattle.assess_records.specs.Numbered.{space_in, name_in}
-use Rattle.tree_names.proofs.Numbers.{number_there, else_number}
+use Rattle.plain_tree.proofs.Numbers.{number_there, else_number}
 
 -- a table stays where a namespace of it is put
 pub space_stays : (t : NameTable) (space : List ℕ) → IsSome (space_number t space) → with_space t space ≡ t

@@ -5,3 +5,4 @@ pub mod There
 mod Known
 mod Tags
 mod Siblings
+pub mod Regoverned

@@ -10,8 +10,8 @@ use Rattle.tree_rows.specs.declared.row.Row.{Row}
 use Rattle.tree_rows.specs.declared.row.Content.{Content}
 use Rattle.tree_rows.specs.declared.row.Content.TheVariants as contents
 use Rattle.assess_records.specs.Numbered.{Scope, heads, names_of, name_in, characters}
-use Rattle.tree_names.specs.Found.{HasName, HasNames}
-use Rattle.tree_names.proofs.Numbers.{name_within}
+use Rattle.plain_tree.specs.Found.{HasName, HasNames}
+use Rattle.plain_tree.proofs.Numbers.{name_within}
 
 -- the names of the elements among siblings
 abbrev pub names_in : NameTable → Forest → List ℕ

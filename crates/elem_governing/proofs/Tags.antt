@@ -11,9 +11,9 @@ use Rattle.tree_rows.specs.declared.row.Binding.{Binding}
 use Rattle.assess_records.specs.declared.shape.NamedText.{NamedText}
 use Rattle.elem_governing.specs.View.{AreKnown}
 use Rattle.assess_records.specs.Numbered.{Scope, space_in, bound, scope_in, named_text, named_texts, name_in}
-use Rattle.tree_names.specs.Found.{HasName, HasBindings, HasAttributes, HasTag}
-use Rattle.tree_names.proofs.Numbers.{number_there, else_number, name_within}
-use Rattle.tree_names.proofs.RowLaws.{drop_next}
+use Rattle.plain_tree.specs.Found.{HasName, HasBindings, HasAttributes, HasTag}
+use Rattle.plain_tree.proofs.Numbers.{number_there, else_number, name_within}
+use Rattle.plain_tree.proofs.RowLaws.{drop_next}
 use Rattle.assess_records.specs.Instance.{instance_text}
 use Rattle.assess_records.specs.declared.instance_names.InstanceAttribute.TheVariants.{TypeName}
 use Rattle.elem_governing.specs.Heads.{IsHead}

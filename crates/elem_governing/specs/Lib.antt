@@ -3,3 +3,4 @@ pub mod LocalType
 pub mod Governing
 pub mod View
 pub mod Heads
+pub mod Again

@@ -2,7 +2,7 @@
 
 ghost use Rattle.std.specs.Prelude.{◌≡◌, ◌<◌, All, length, IfOk};
 ghost use Rattle.assess_records.specs.Numbered.{Scope as Prefixes, heads, names_of, characters};
-ghost use Rattle.tree_names.specs.Found.{HasNames};
+ghost use Rattle.plain_tree.specs.Found.{HasNames};
 
 use crate::numbers::known_name;
 use std::alloc::{AllocError, Global};

@@ -2,7 +2,7 @@
 
 ghost use Rattle.std.specs.Prelude.{◌≡◌, IfOk};
 ghost use Rattle.assess_records.specs.Numbered as numbered;
-ghost use Rattle.tree_names.specs.Found.{HasName, HasBindings, HasAttributes, HasTag};
+ghost use Rattle.plain_tree.specs.Found.{HasName, HasBindings, HasAttributes, HasTag};
 ghost use Rattle.elem_governing.specs.Heads.{IsHead};
 
 use crate::numbers::{known_name, known_space};

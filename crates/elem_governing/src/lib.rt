@@ -1,6 +1,7 @@
-//! The declaration and the type that govern an element, and what its attribute xsi:type says.
+//! The governing declaration and type of an element, from its head, and what governs it where its attribute xsi:type is another now.
 #![tactic(auto)]
 
+mod again;
 mod children;
 mod derivation;
 mod govern;
@@ -12,6 +13,7 @@ mod numbers;
 mod pairs;
 mod view;
 
+pub use again::{pairs_are_governed_again, regovern};
 pub use children::{child_names, text_of};
 pub use govern::{govern_child, govern_root};
 pub use governed_laws::governed_types_are_there;

@@ -3,7 +3,7 @@
 ghost use Rattle.std.specs.Prelude.{◌≡◌, IfOk, IsSome, Some};
 ghost use Rattle.xs_names.specs.Names.{space_number};
 ghost use Rattle.assess_records.specs.Numbered.{space_in, name_in};
-ghost use Rattle.tree_names.specs.Found.{HasSpace, HasName};
+ghost use Rattle.plain_tree.specs.Found.{HasSpace, HasName};
 
 use std::alloc::AllocError;
 use tree_rows::Expanded;

@@ -12,7 +12,7 @@ use Rattle.xs_components.specs.Tables.{Tables}
 use Rattle.xs_components.specs.declared.constraint.Constraint.{Constraint}
 use Rattle.xs_components.specs.declared.constraint.ConstraintKind.{ConstraintKind}
 use Rattle.xs_components.specs.declared.constraint.ConstraintKind.TheVariants.{Unique, Key, Keyref}
-use Rattle.identity_paths.specs.declared.paths.IdentityPaths.{IdentityPaths}
+use Rattle.xpath_subset.specs.declared.paths.IdentityPaths.{IdentityPaths}
 use Rattle.identity_constraints.specs.Seen.{KeyElement, KeyForest, none, element}
 use Rattle.identity_constraints.specs.Targets.{Outcome, constraints_of, outcomes}
 use Rattle.identity_constraints.specs.Satisfied.{has_misused, has_lacking, has_nillable, has_unmatched, is_no_key, is_not_unique, first_broken, checks, checks_by, codes_by, identity_codes}

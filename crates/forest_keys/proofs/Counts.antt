@@ -6,14 +6,14 @@ use Rattle.std.proofs.lemmas.List.Recursion.{is_count_by}
 use Rattle.simple_values.specs.declared.key.Key.{Key}
 use Rattle.xs_names.specs.Names.{NameTable}
 use Rattle.xs_components.specs.Tables.{Tables}
-use Rattle.identity_paths.specs.declared.paths.IdentityPaths.{IdentityPaths}
+use Rattle.xpath_subset.specs.declared.paths.IdentityPaths.{IdentityPaths}
 use Rattle.identity_tables.specs.Tuple.{same_tuple}
-use Rattle.identity_counts.proofs.Bearers.{same_or_other}
-use Rattle.identity_carry.proofs.EntryLaws.{tuple_decides}
+use Rattle.identity_constraints.proofs.Bearers.{same_or_other}
+use Rattle.key_records.proofs.CarriedEntryLaws.{tuple_decides}
 use Rattle.identity_constraints.specs.Seen.{KeyElement, KeyForest, none, element}
 use Rattle.identity_constraints.specs.Targets.{Outcome, constraints_of, has_constraint, outcomes}
 use Rattle.identity_constraints.specs.Satisfied.{tuples_in}
-use Rattle.identity_views.specs.Views.{times}
+use Rattle.key_records.specs.Views.{times}
 use Rattle.path_walk.specs.inside.Walk.{size}
 use Rattle.key_records.specs.Counted.{Counted, Feature, has, has_keys, no_targets, one_target, with_keys}
 use Rattle.key_records.specs.Faults.{weight}

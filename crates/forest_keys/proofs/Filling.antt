@@ -2,11 +2,11 @@
 use Rattle.std.proofs.Common.{◌≡◌, ◌+◌, ◌<◌, ◌≤◌, ℕ, List, subst, ◌∙◌, arith}
 use Rattle.xs_names.specs.Names.{NameTable}
 use Rattle.xs_components.specs.Tables.{Tables}
-use Rattle.identity_paths.specs.declared.paths.IdentityPaths.{IdentityPaths}
-use Rattle.identity_counts.specs.Counting.{Links, StandFor}
+use Rattle.xpath_subset.specs.declared.paths.IdentityPaths.{IdentityPaths}
+use Rattle.identity_constraints.specs.Counting.{Links, StandFor}
 use Rattle.identity_constraints.specs.Seen.{KeyElement, KeyForest, none, element}
 use Rattle.identity_constraints.specs.Targets.{outcomes}
-use Rattle.identity_views.specs.Views.{AreCounted}
+use Rattle.key_records.specs.Views.{AreCounted}
 use Rattle.path_walk.specs.Sight.{IsFirst, below_first, behind_first}
 use Rattle.path_walk.specs.inside.Walk.{size}
 use Rattle.key_records.specs.Counted.{Counted, Feature, own_tuples, with_keys}

@@ -9,3 +9,11 @@ mod Filling
 mod ReadLaws
 mod Codes
 mod Siblings
+mod Parsing
+mod Coding
+mod Agreeing
+mod Naming
+mod Stepping
+mod Together
+mod There
+mod Spreading

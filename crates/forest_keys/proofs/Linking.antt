@@ -3,8 +3,8 @@ use Rattle.std.proofs.Common.{◌≡◌, ◌≢◌, ◌+◌, ℕ, zero, suc, Boo
 use Rattle.std.specs.Prelude.{slice_get}
 use Rattle.std.specs.Option.{option_and_then}
 use Rattle.std.proofs.lemmas.Bool.{eqb-true, eq-eqb}
-use Rattle.identity_counts.specs.Counting.{Links, Has, Lacks, Distinct, IsLinked}
-use Rattle.identity_carry.specs.Tables.{parent_in}
+use Rattle.identity_constraints.specs.Counting.{Links, Has, Lacks, Distinct, IsLinked}
+use Rattle.key_records.specs.Tables.{parent_in}
 
 abbrev joined : Option (Option ℕ) → Option ℕ
 joined found = option_and_then (λ (o : Option ℕ). o) found

@@ -3,8 +3,8 @@ use Rattle.std.proofs.Common.{◌≡◌, ◌⊎◌, ◌+◌, ◌<◌, ◌≤◌,
 use Rattle.std.specs.Prelude.{slice_get}
 use Rattle.std.specs.Option.{option_and_then}
 use Rattle.std.proofs.lemmas.List.{length-append}
-use Rattle.identity_counts.specs.Counting.{firsts, StandFor}
-use Rattle.identity_carry.specs.Tables.{AreParents}
+use Rattle.identity_constraints.specs.Counting.{firsts, StandFor}
+use Rattle.key_records.specs.Tables.{AreParents}
 use Rattle.identity_constraints.specs.Seen.{KeyForest, none, element}
 use Rattle.path_walk.specs.inside.Walk.{size}
 use Rattle.forest_keys.specs.inside.Places.{placed, parents_along}

@@ -7,16 +7,16 @@ use Rattle.std.proofs.lemmas.Bool.Decides.{nat_tests}
 use Rattle.simple_values.specs.declared.key.Key.{Key}
 use Rattle.xs_names.specs.Names.{NameTable}
 use Rattle.xs_components.specs.Tables.{Tables}
-use Rattle.identity_paths.specs.declared.paths.IdentityPaths.{IdentityPaths}
+use Rattle.xpath_subset.specs.declared.paths.IdentityPaths.{IdentityPaths}
 use Rattle.identity_tables.specs.Tuple.{same_tuple}
-use Rattle.identity_counts.specs.Counting.{is_visible as is_seen_at}
-use Rattle.identity_carry.specs.Tables.{for_key}
-use Rattle.identity_carry.proofs.EntryLaws.{tuple_decides}
+use Rattle.identity_constraints.specs.Counting.{is_visible as is_seen_at}
+use Rattle.key_records.specs.Tables.{for_key}
+use Rattle.key_records.proofs.CarriedEntryLaws.{tuple_decides}
 use Rattle.identity_constraints.specs.Seen.{KeyElement, KeyForest}
 use Rattle.identity_constraints.specs.Targets.{Outcome, outcomes}
 use Rattle.identity_constraints.specs.Satisfied.{tuples_in, has_repeated, is_visible, has_unmatched}
-use Rattle.identity_views.specs.Views.{times}
-use Rattle.identity_views.proofs.ViewLaws.{visible-is, counted-twice, twice-there}
+use Rattle.key_records.specs.Views.{times}
+use Rattle.key_records.proofs.ViewLaws.{visible-is, counted-twice, twice-there}
 use Rattle.key_records.specs.Counted.{Feature, has, own_tuples, with_keys}
 use Rattle.key_records.specs.Faults.{weight}
 use Rattle.key_records.specs.declared.records.KeyRecords.{KeyRecords}

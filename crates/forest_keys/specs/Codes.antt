@@ -3,7 +3,7 @@ use Rattle.std.specs.Prelude.{List, [], ◌∷◌, ◌++◌}
 use Rattle.xs_names.specs.Names.{NameTable}
 use Rattle.xs_codes.specs.declared.fault.Found.{Found}
 use Rattle.xs_components.specs.Tables.{Tables}
-use Rattle.identity_paths.specs.declared.paths.IdentityPaths.{IdentityPaths}
+use Rattle.xpath_subset.specs.declared.paths.IdentityPaths.{IdentityPaths}
 use Rattle.identity_constraints.specs.Seen.{KeyForest, none, element}
 use Rattle.identity_constraints.specs.Satisfied.{identity_codes}
 

@@ -1,3 +1,5 @@
 pub mod Stepping
 pub mod Texts
 pub mod Counts
+pub mod Buffers
+pub mod Counting

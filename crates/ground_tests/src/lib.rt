@@ -1,4 +1,4 @@
-//! Tests of the public calls of the ground crates that the program does not make: rows and lists.
+//! Tests of the ground, and of the summary of children by the members of an all.
 #![tactic(auto)]
 
 #[cfg(test)]
@@ -9,6 +9,8 @@ mod list_held;
 mod list_tests;
 #[cfg(test)]
 mod lists;
+#[cfg(test)]
+mod members;
 #[cfg(test)]
 mod nothing;
 #[cfg(test)]

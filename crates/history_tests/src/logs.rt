@@ -1,8 +1,8 @@
 ghost use Rattle.std.specs.Prelude.{◌≡◌};
-ghost use Rattle.undo_log.specs.declared.log.Taken.TheVariants.{Nothing};
+ghost use Rattle.edit_history.specs.declared.log.Taken.TheVariants.{Nothing};
 
+use edit_history::UndoLog;
 use std::test::Fail;
-use undo_log::UndoLog;
 
 // Undoes a step, which is its own inverse.
 fn undo(log: &mut UndoLog<u32>) -> Option<u32>

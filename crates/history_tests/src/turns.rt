@@ -1,4 +1,4 @@
-use author_turns::{Touched, Turns};
+use edit_history::{Touched, Turns};
 use std::test::Fail;
 
 // The list of a node's children.

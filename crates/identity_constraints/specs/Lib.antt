@@ -1,3 +1,4 @@
 pub mod Seen
 pub mod Targets
 pub mod Satisfied
+pub mod Counting

@@ -12,7 +12,7 @@ use Rattle.xs_components.specs.declared.constraint.Constraint.{Constraint}
 use Rattle.xs_components.specs.declared.constraint.ConstraintKind.{ConstraintKind}
 use Rattle.xs_components.specs.declared.constraint.ConstraintKind.TheVariants.{Unique, Key as KeyKind, Keyref}
 use Rattle.identity_tables.specs.Tuple.{same_tuple}
-use Rattle.identity_paths.specs.declared.paths.IdentityPaths.{IdentityPaths}
+use Rattle.xpath_subset.specs.declared.paths.IdentityPaths.{IdentityPaths}
 use Rattle.identity_constraints.specs.Seen.{KeyElement, KeyForest, none, element}
 use Rattle.identity_constraints.specs.Targets.{Outcome, constraints_of, outcomes}
 

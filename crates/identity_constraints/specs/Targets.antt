@@ -15,7 +15,7 @@ use Rattle.component_tables.specs.declared.content_types.ContentType.TheVariants
 use Rattle.xpath_subset.specs.Reaches.{ExpandedName, expanded_name}
 use Rattle.xpath_subset.specs.Reached.{reached}
 use Rattle.xpath_subset.specs.declared.path.Path.{Path}
-use Rattle.identity_paths.specs.declared.paths.IdentityPaths.{IdentityPaths}
+use Rattle.xpath_subset.specs.declared.paths.IdentityPaths.{IdentityPaths}
 use Rattle.identity_constraints.specs.Seen.{KeyAttribute, KeyElement, KeyForest, Reached, reached_from}
 
 -- a node that a field reaches

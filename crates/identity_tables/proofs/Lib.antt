@@ -4,3 +4,4 @@ pub mod Tally
 pub mod Among
 pub mod IdTables
 pub mod Codes
+pub mod Dropping

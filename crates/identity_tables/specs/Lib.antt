@@ -6,3 +6,4 @@ pub mod Uses
 pub mod Entries
 pub mod Ids
 pub mod Table
+pub mod Counted

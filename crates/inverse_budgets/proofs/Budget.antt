@@ -2,24 +2,24 @@
 use Rattle.std.proofs.Common.{◌≡◌, ℕ, ◌+◌, ◌≤◌, List, [], refl, sym, subst, arith}
 use Rattle.tree_rows.specs.Forest.{Forest, none, text, element, Document}
 use Rattle.tree_edits.specs.declared.edit.Edit.TheVariants as edits
-use Rattle.tree_inverses.specs.Changes.{written, CanPutBack}
-use Rattle.tree_inverses.specs.Changes as law
-use Rattle.tree_inverses.proofs.Twice.{absent}
+use Rattle.tree_edits.specs.Inverses.{written, CanPutBack}
+use Rattle.tree_edits.specs.Inverses as law
+use Rattle.tree_edits.proofs.Twice.{absent}
 use Rattle.assessment.specs.Assessment.{Entry, entries}
 use Rattle.assessment.proofs.Alike.{element-counts}
 use Rattle.compiled_schema.specs.Usable.{set_of}
 use Rattle.compiled_schema.specs.declared.compiled.Compiled.{Compiled}
-use Rattle.undo_budgets.specs.Budget.{change_budget}
+use Rattle.edit_budgets.specs.UndoBudget.{change_budget}
 use Rattle.what_is_found.specs.IsFound.{IsFound}
 use Rattle.doc_nodes.specs.Nodes.{Nodes}
 use Rattle.doc_changes.specs.Stands.{StandsFor, expanded_of}
 use Rattle.doc_edits.specs.declared.change.Change.TheVariants as edited
-use Rattle.doc_inverses.specs.Changes.{Means}
-use Rattle.doc_inverses.specs.Parts.{IsPart}
-use Rattle.doc_inverses.specs.declared.change.Change.{Change}
-use Rattle.doc_inverses.specs.declared.change.Change.TheVariants as changes
-use Rattle.doc_inverses.specs.declared.part.PartRow.{PartRow}
-use Rattle.doc_inverses.proofs.Meaning.{puts_back, takes, names, writes, rewords}
+use Rattle.doc_tree.specs.Changes.{Means}
+use Rattle.doc_tree.specs.Parts.{IsPart}
+use Rattle.doc_tree.specs.declared.change.Change.{Change}
+use Rattle.doc_tree.specs.declared.change.Change.TheVariants as changes
+use Rattle.doc_tree.specs.declared.part.PartRow.{PartRow}
+use Rattle.doc_tree.proofs.Meaning.{puts_back, takes, names, writes, rewords}
 use Rattle.kept_inverses.specs.from_kept_records.Found.{found_in}
 use Rattle.kept_inverses.specs.from_kept_state.KeptState.{KeptState}
 use Rattle.kept_inverses.specs.from_kept_children.Edited.{IsRightFor}

@@ -2,16 +2,16 @@
 
 ghost use Rattle.std.specs.Prelude.{◌≤◌, ◌+◌, ℕ, List};
 ghost use Rattle.tree_rows.specs.Forest.{Document};
-ghost use Rattle.tree_inverses.specs.Changes as law;
+ghost use Rattle.tree_edits.specs.Inverses as law;
 ghost use Rattle.assessment.specs.Assessment.{Entry, entries};
 ghost use Rattle.compiled_schema.specs.Usable.{set_of};
 ghost use Rattle.compiled_schema.specs.declared.compiled.Compiled.{Compiled as CompiledData};
-ghost use Rattle.undo_budgets.specs.Budget.{change_budget};
+ghost use Rattle.edit_budgets.specs.UndoBudget.{change_budget};
 ghost use Rattle.what_is_found.specs.IsFound.{IsFound};
 ghost use Rattle.doc_nodes.specs.Nodes.{Nodes};
 ghost use Rattle.doc_changes.specs.Stands.{StandsFor};
-ghost use Rattle.doc_inverses.specs.Changes.{Means};
-ghost use Rattle.doc_inverses.specs.declared.change.Change.{Change as ChangeData};
+ghost use Rattle.doc_tree.specs.Changes.{Means};
+ghost use Rattle.doc_tree.specs.declared.change.Change.{Change as ChangeData};
 ghost use Rattle.kept_inverses.specs.from_kept_records.Found.{found_in};
 ghost use Rattle.kept_inverses.specs.from_kept_state.KeptState.{KeptState as KeptData};
 ghost use Rattle.kept_inverses.specs.from_kept_children.Edited.{IsRightFor};

@@ -19,8 +19,8 @@ use Rattle.tree_assess.specs.declared.entry.ElementEntry.{ElementEntry}
 use Rattle.model_lists.specs.Lists.{ListsView}
 use Rattle.doc_nodes.specs.Nodes.{Nodes, node, IsSound, is_element_at, element_children}
 use Rattle.doc_changes.specs.Held.{parent_at}
-use Rattle.doc_documents.specs.Readers.{own_chars}
-use Rattle.doc_heads.specs.Heads.{texts_named}
+use Rattle.doc_changes.specs.Readers.{own_chars}
+use Rattle.doc_readers.specs.Heads.{texts_named}
 use Rattle.kept_slots.specs.Slots.{at}
 use Rattle.kept_judging.specs.from_kept_records.KeptElement.{KeptElement}
 use Rattle.kept_judging.specs.from_kept_records.Slots.{IsKept, IsMade, blank, kept_at, entry_at, pair_at, record_at}

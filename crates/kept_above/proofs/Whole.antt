@@ -5,9 +5,9 @@ use Rattle.std.proofs.lemmas.List.Elements.{All-nil, All-cons}
 use Rattle.assessment.specs.Local.{AreRead, element_numbers}
 use Rattle.compiled_schema.specs.declared.compiled.Compiled.{Compiled}
 use Rattle.doc_nodes.specs.Nodes.{Nodes, is_element_at, element_children}
-use Rattle.doc_documents.proofs.Reading.{are_read}
-use Rattle.doc_heads.proofs.Reading.{readers_are}
-use Rattle.doc_heads.specs.Heads.{readers_of}
+use Rattle.doc_changes.proofs.Reading.{are_read}
+use Rattle.doc_readers.proofs.Reading.{readers_are}
+use Rattle.doc_readers.specs.Heads.{readers_of}
 use Rattle.kept_judging.specs.from_kept_records.Slots.{IsMade}
 use Rattle.kept_judging.proofs.from_kept_records.Made.{made-in}
 use Rattle.kept_judging.proofs.from_kept_records.Nodes.{has-element, root-numbers}

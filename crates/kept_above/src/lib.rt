@@ -3,7 +3,6 @@
 
 mod climb;
 
-pub use kept_judging::kept_records;
-pub use kept_judging::kept_state;
-pub use kept_judging;
 pub use climb::{recount, settle_above};
+pub use kept_judging;
+pub use kept_judging::{kept_records, kept_state};

@@ -14,8 +14,8 @@ use Rattle.tree_rows.specs.Forest.{Forest}
 use Rattle.doc_nodes.proofs.Among.{from-map}
 use Rattle.doc_nodes.specs.Nodes.{Node, Nodes, node, Has, Distinct, IsSound, depth_by, children_by, is_element_at, element_children}
 use Rattle.doc_changes.specs.Held.{parent_at}
-use Rattle.doc_documents.specs.Readers.{element_numbers}
-use Rattle.doc_documents.proofs.Reading.{depth_below}
+use Rattle.doc_changes.specs.Readers.{element_numbers}
+use Rattle.doc_changes.proofs.Reading.{depth_below}
 use Rattle.kept_slots.specs.Slots.{at}
 use Rattle.child_listing.specs.from_kept_records.Slots.{KeptSlots, IsMade, blank, pair_at, record_at}
 use Rattle.child_listing.specs.from_kept_records.Fit.{models_of, IsListed, AboveIn}
@@ -32,8 +32,7 @@ use Rattle.child_listing.proofs.Distinct.{distinct-filter, filtered, has-place, 
 use Rattle.kept_forgetting.proofs.Keeping.{keeps-then, keeps-wider}
 use Rattle.kept_below.specs.Moved.{moved, AreGivenDown}
 use Rattle.kept_below.proofs.Moving.{HasRoom, room-stopped, room-next}
-use Rattle.kept_forgetting.proofs.Walks.{has-get}
-use Rattle.kept_forgetting.proofs.Walks.{self-within, child-below, siblings-apart}
+use Rattle.kept_forgetting.proofs.Walks.{has-get, self-within, child-below, siblings-apart}
 
 abbrev pub number : Governed → ℕ
 number g = g.node

@@ -17,16 +17,15 @@ use Rattle.doc_nodes.specs.Nodes.{Nodes, Has, Distinct, IsSound, element_childre
 use Rattle.doc_nodes.proofs.Among.{lacks-has}
 use Rattle.doc_changes.specs.Held.{parent_at}
 use Rattle.doc_changes.specs.Stands.{StandFor, firsts}
-use Rattle.doc_documents.specs.Readers.{element_numbers}
-use Rattle.doc_documents.proofs.Reading.{are_read}
+use Rattle.doc_changes.specs.Readers.{element_numbers}
+use Rattle.doc_changes.proofs.Reading.{are_read}
 use Rattle.kept_slots.specs.Slots.{at}
 use Rattle.child_listing.specs.from_kept_records.KeptElement.{KeptElement}
 use Rattle.child_listing.specs.from_kept_records.Slots.{KeptSlots}
 use Rattle.child_listing.specs.from_kept_judging.Judged.{pair_by}
 use Rattle.kept_forgetting.specs.Below.{IsWithin}
 use Rattle.kept_below.specs.Moved.{is_typed, moved, AreGivenDown}
-use Rattle.kept_forgetting.proofs.Walks.{parent-of}
-use Rattle.kept_forgetting.proofs.Walks.{self-within, below-within, child-below, siblings-apart}
+use Rattle.kept_forgetting.proofs.Walks.{parent-of, self-within, below-within, child-below, siblings-apart}
 
 -- ---- elements of a forest
 

@@ -11,8 +11,8 @@ use Rattle.doc_nodes.specs.Nodes.{Nodes, node, Distinct, depth_by, children_by, 
 use Rattle.doc_nodes.proofs.Among.{lacks-has}
 use Rattle.doc_changes.specs.Held.{parent_at}
 use Rattle.doc_changes.specs.Stands.{StandsFor}
-use Rattle.doc_documents.specs.Readers.{element_numbers}
-use Rattle.doc_documents.proofs.Reading.{depth_below}
+use Rattle.doc_changes.specs.Readers.{element_numbers}
+use Rattle.doc_changes.proofs.Reading.{depth_below}
 use Rattle.kept_slots.specs.Slots.{at}
 use Rattle.child_listing.specs.from_kept_records.Slots.{KeptSlots}
 use Rattle.child_listing.proofs.from_kept_records.Nodes.{there, child-parent}

@@ -9,7 +9,7 @@ use Rattle.compiled_schema.specs.declared.compiled.Compiled.{Compiled}
 use Rattle.edit_budgets.specs.Budget.{same_governing}
 use Rattle.doc_nodes.specs.Nodes.{Nodes, element_children}
 use Rattle.doc_changes.specs.Stands.{StandFor}
-use Rattle.doc_documents.specs.Readers.{element_numbers}
+use Rattle.doc_changes.specs.Readers.{element_numbers}
 use Rattle.kept_slots.specs.Slots.{at}
 use Rattle.child_listing.specs.from_kept_records.KeptElement.{KeptElement}
 use Rattle.child_listing.specs.from_kept_records.Slots.{KeptSlots}

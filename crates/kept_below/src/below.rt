@@ -9,7 +9,7 @@ ghost use Rattle.model_lists.specs.Lists.{IsLive, KeepLists};
 ghost use Rattle.model_lists.specs.declared.handle.ModelList.{ModelList as ModelListData};
 ghost use Rattle.doc_nodes.specs.Nodes.{Has, element_children, is_element_at};
 ghost use Rattle.doc_changes.specs.Stands.{StandsFor};
-ghost use Rattle.doc_documents.specs.Readers.{element_numbers};
+ghost use Rattle.doc_changes.specs.Readers.{element_numbers};
 ghost use Rattle.kept_slots.specs.Slots.{at};
 ghost use Rattle.child_listing.specs.from_kept_records.Slots.{IsMade, pair_at, kept_at, record_at};
 ghost use Rattle.child_listing.specs.from_kept_records.Fit.{models_of, AboveIn, IsGathered, IsTop};
@@ -22,11 +22,11 @@ ghost use Rattle.kept_below.specs.Below.{AreAbove, IsMadeAnew, IsSettled, KeepsI
 ghost use Rattle.kept_below.specs.Moved.{AreGivenDown, moved};
 
 use assess_records::ChildCounts;
+use child_listing::kept_judging::{judge, keep_judged, pair_of_root};
+use child_listing::kept_state::{Governed, KeptChildren, KeptState};
 use child_listing::list_children;
 use compiled_schema::Compiled;
 use doc_tree::DocTree;
-use child_listing::kept_judging::{judge, keep_judged, pair_of_root};
-use child_listing::kept_state::{Governed, KeptChildren, KeptState};
 use model_lists::{ModelList, ModelLists};
 use std::alloc::AllocError;
 use xsv_steps::{Ledger, Steps};

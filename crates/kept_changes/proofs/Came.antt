@@ -12,9 +12,9 @@ use Rattle.doc_nodes.specs.Nodes.{Node, Nodes, node, IsNode, IsSound, Has, child
 use Rattle.doc_nodes.proofs.Among.{has-inserted}
 use Rattle.doc_changes.specs.Held.{parent_at}
 use Rattle.doc_changes.specs.Stands.{StandFor, StandsFor}
-use Rattle.doc_planting.specs.Fits.{Fits}
-use Rattle.doc_planting.specs.Planted.{Plants}
-use Rattle.doc_planting.proofs.Placing.{IsParent, parent_of}
+use Rattle.doc_changes.specs.Fits.{Fits}
+use Rattle.doc_changes.specs.Planted.{Plants}
+use Rattle.doc_changes.proofs.Placing.{IsParent, parent_of}
 use Rattle.kept_children.proofs.from_kept_records.Nodes.{by-node}
 use Rattle.kept_children.specs.from_kept_state.KeptState.{KeptState}
 use Rattle.kept_children.proofs.from_kept_forgetting.Placed.{in-table}

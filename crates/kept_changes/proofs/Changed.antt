@@ -16,8 +16,8 @@ use Rattle.doc_nodes.specs.declared.content.NameBinding.{NameBinding}
 use Rattle.doc_changes.specs.Held.{chars_in, name_in, attributes_in, bindings_in, parent_at, attributes_by, bindings_by, bindings_at}
 use Rattle.doc_changes.specs.Parts.{Prunes}
 use Rattle.doc_changes.specs.Stands.{StandsFor}
-use Rattle.doc_documents.specs.Readers.{name_by, chars_by, chars_at, own_chars, own_scope, outer_scope, scope_upto, scope_at}
-use Rattle.doc_planting.specs.Planted.{Plants}
+use Rattle.doc_changes.specs.Readers.{name_by, chars_by, chars_at, own_chars, own_scope, outer_scope, scope_upto, scope_at}
+use Rattle.doc_changes.specs.Planted.{Plants}
 use Rattle.kept_children.proofs.from_kept_forgetting.Placed.{has-at, in-table, parent-element}
 use Rattle.kept_children.specs.Edited.{ComesAt}
 use Rattle.kept_changes.specs.Own.{Stays, HaveSameElements, Retexts, Reattributes, Renames}

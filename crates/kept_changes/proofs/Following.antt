@@ -18,7 +18,7 @@ use Rattle.doc_changes.specs.Stands.{StandsFor}
 use Rattle.doc_changes.proofs.Attributed.{holds_attribute}
 use Rattle.doc_changes.proofs.Changing.{some_place}
 use Rattle.doc_changes.proofs.Holding.{HoldsElement, HoldsChars, IsTextOf, text_of, holds_element, holds_chars}
-use Rattle.doc_planting.proofs.Placing.{IsParent, parent_of}
+use Rattle.doc_changes.proofs.Placing.{IsParent, parent_of}
 use Rattle.doc_edits.specs.Changes.{CanMake, IsMade, changed}
 use Rattle.doc_edits.specs.declared.change.Change.{Change}
 use Rattle.doc_edits.specs.declared.change.Change.TheVariants as changes

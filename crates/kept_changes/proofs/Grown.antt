@@ -20,10 +20,10 @@ use Rattle.assessment.proofs.Walking.{symbols-known}
 use Rattle.compiled_schema.specs.Usable.{IsUsable, set_of}
 use Rattle.compiled_schema.specs.declared.compiled.Compiled.{Compiled}
 use Rattle.compiled_schema.proofs.UsableLaws.{usable-more}
-use Rattle.grown_records.specs.There.{ArePartsNamed, IsShapeNamed}
-use Rattle.grown_records.proofs.Spaces.{instance-text-kept}
-use Rattle.grown_records.proofs.Types.{child-kept, root-kept}
-use Rattle.grown_records.proofs.Elements.{local-kept}
+use Rattle.assessment_laws.specs.GrownThere.{ArePartsNamed, IsShapeNamed}
+use Rattle.assessment_laws.proofs.Spaces.{instance-text-kept}
+use Rattle.assessment_laws.proofs.Types.{child-kept, root-kept}
+use Rattle.assessment_laws.proofs.Elements.{local-kept}
 use Rattle.model_terms.specs.Symbols.{child_symbols}
 use Rattle.model_terms.specs.Terms.{stuck_in, term_in}
 use Rattle.tree_rows.specs.Forest.{Document}
@@ -32,9 +32,9 @@ use Rattle.doc_nodes.specs.declared.content.Content.{Content}
 use Rattle.doc_nodes.specs.declared.content.Content.TheVariants as contents
 use Rattle.doc_changes.specs.Stands.{StandsFor, HasNames}
 use Rattle.doc_changes.proofs.Holding.{element_of}
-use Rattle.doc_documents.specs.Readers.{name_by, name_at, scope_at}
-use Rattle.doc_documents.proofs.Named.{stands_grown}
-use Rattle.doc_heads.specs.Heads.{texts_named}
+use Rattle.doc_changes.specs.Readers.{name_by, name_at, scope_at}
+use Rattle.doc_changes.proofs.Named.{stands_grown}
+use Rattle.doc_readers.specs.Heads.{texts_named}
 use Rattle.kept_children.specs.from_kept_records.Slots.{IsMade, kept_at, entry_at, pair_at}
 use Rattle.kept_children.specs.from_kept_records.Fit.{models_of, head_at, shape_at, symbols_at, IsListed, IsGathered, IsFit, IsTop}
 use Rattle.kept_children.proofs.from_kept_records.Modelled.{type-fits}

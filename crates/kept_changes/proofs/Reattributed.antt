@@ -6,14 +6,14 @@ use Rattle.std.proofs.lemmas.Bool.{cases_eq}
 use Rattle.std.proofs.lemmas.Option.{none-some, same_Some}
 use Rattle.assess_records.specs.Counts.{counts_of}
 use Rattle.elem_governing.specs.declared.pairs.Governing.{Governing}
-use Rattle.elem_regoverning.proofs.Regoverned.{child-again, root-again}
+use Rattle.elem_governing.proofs.Regoverned.{child-again, root-again}
 use Rattle.compiled_schema.specs.Usable.{set_of}
 use Rattle.compiled_schema.specs.declared.compiled.Compiled.{Compiled}
 use Rattle.model_terms.specs.Terms.{stuck_in, term_in}
 use Rattle.doc_nodes.specs.Nodes.{Nodes, node, IsSound, Has, depth_by, is_element_at, element_children}
 use Rattle.doc_nodes.proofs.Among.{lacks-has}
 use Rattle.doc_changes.specs.Held.{parent_at}
-use Rattle.doc_documents.proofs.Reading.{depth_below}
+use Rattle.doc_changes.proofs.Reading.{depth_below}
 use Rattle.kept_slots.specs.Slots.{at}
 use Rattle.kept_children.specs.from_kept_records.KeptElement.{KeptElement}
 use Rattle.kept_children.specs.from_kept_records.Slots.{IsMade, blank, kept_at, pair_at, record_at}
@@ -28,7 +28,7 @@ use Rattle.kept_children.proofs.from_kept_judging.Anew.{not-own-parent, gathered
 use Rattle.kept_children.proofs.from_kept_judging.Reading.{root-can, given-can}
 use Rattle.kept_children.specs.from_kept_above.Climbing.{IsNearly, IsClimbing, KeepsRest}
 use Rattle.kept_children.proofs.from_kept_above.Climbing.{judged-kept, nearly}
-use Rattle.kept_children.proofs.from_kept_forgetting.Placed.{children-differ, child-place, parent-element, root-alone}
+use Rattle.kept_children.proofs.from_kept_forgetting.Placed.{children-differ, child-place, parent-element, root-alone, one-place}
 use Rattle.kept_children.proofs.from_kept_above.Whole.{all-made}
 use Rattle.kept_children.specs.from_kept_forgetting.Below.{upwards, IsWithin}
 use Rattle.kept_children.specs.from_kept_below.Below.{AreAbove, IsSettled}
@@ -36,7 +36,6 @@ use Rattle.kept_children.specs.Edited.{IsRightFor}
 use Rattle.kept_children.specs.from_child_lists.Family.{AreGivenBut, IsAttributed}
 use Rattle.kept_children.specs.from_child_lists.Places.{IsPlaceOf}
 use Rattle.kept_children.specs.from_child_lists.ChildPlace.{ChildPlace}
-use Rattle.kept_children.proofs.from_kept_forgetting.Placed.{one-place}
 use Rattle.kept_children.proofs.Midway.{parent-stays, sibling-stays, attributed-settled, given-settled}
 use Rattle.kept_changes.specs.Own.{IsReattributed}
 use Rattle.kept_changes.proofs.Reread.{head-same, texts-same, symbols-same, given-same, children-reread, judged-reread, right-made}

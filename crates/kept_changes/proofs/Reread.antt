@@ -15,8 +15,8 @@ use Rattle.model_terms.specs.Symbols.{child_symbols}
 use Rattle.model_terms.specs.Terms.{stuck_in, term_in}
 use Rattle.doc_nodes.specs.Nodes.{Nodes, is_element_at, element_children}
 use Rattle.doc_changes.specs.Held.{parent_at, attributes_at}
-use Rattle.doc_documents.specs.Readers.{name_at, own_chars, scope_at}
-use Rattle.doc_heads.specs.Heads.{text_named, texts_named}
+use Rattle.doc_changes.specs.Readers.{name_at, own_chars, scope_at}
+use Rattle.doc_readers.specs.Heads.{text_named, texts_named}
 use Rattle.kept_children.specs.from_kept_records.Slots.{IsMade, kept_at, entry_at, record_at}
 use Rattle.kept_children.specs.from_kept_records.Fit.{models_of, root_codes, head_at, IsListed, IsTop}
 use Rattle.kept_children.proofs.from_kept_records.Frames.{map-same}

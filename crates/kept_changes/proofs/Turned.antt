@@ -14,9 +14,9 @@ use Rattle.doc_changes.specs.Stands.{StandsFor}
 use Rattle.doc_changes.proofs.Attributed.{holds_attribute}
 use Rattle.doc_changes.proofs.Changing.{some_place}
 use Rattle.doc_changes.proofs.Holding.{HoldsElement, HoldsChars, holds_element, holds_chars}
-use Rattle.doc_planting.specs.Fits.{Fits}
-use Rattle.doc_planting.specs.Planted.{Plants}
-use Rattle.doc_planting.proofs.Placing.{IsParent, parent_of}
+use Rattle.doc_changes.specs.Fits.{Fits}
+use Rattle.doc_changes.specs.Planted.{Plants}
+use Rattle.doc_changes.proofs.Placing.{IsParent, parent_of}
 use Rattle.doc_edits.specs.Changes.{CanMake, IsMade}
 use Rattle.doc_edits.specs.declared.change.Change.{Change}
 use Rattle.doc_edits.specs.declared.change.Change.TheVariants as changes
@@ -60,8 +60,7 @@ module _ (t : NameTable) (old new : Nodes) (d : Document) (z : StandsFor t old d
   gone key p is up made =
       let h : HoldsChars old key = text-by old key p is up in
       let above = parent-has old z.links key p up in
-      let place = some_place key above.0.children above.2 in
-      (
+      let place = some_place key above.0.children above.2 in (
         parent-element t old d z key p up,
         text-pruned t old new d z p place.0 above.0 above.1 key h.it h.is h.chars h.holds place.1 (made none (text-over t old d z key h) p place.0 (above.0, above.1, place.1)),
       )

@@ -5,7 +5,7 @@ use Rattle.doc_nodes.specs.Nodes.{Node, Nodes, IsNode, Holds, is_element_at, ele
 use Rattle.doc_nodes.specs.declared.content.Content.TheVariants as contents
 use Rattle.doc_nodes.specs.declared.content.Element.{Element}
 use Rattle.doc_changes.specs.Held.{parent_at, attributes_at}
-use Rattle.doc_documents.specs.Readers.{name_at, own_chars, scope_at}
+use Rattle.doc_changes.specs.Readers.{name_at, own_chars, scope_at}
 use Rattle.kept_children.specs.Edited.{IsRightFor}
 use Rattle.kept_children.specs.from_kept_state.KeptState.{KeptState}
 

@@ -6,7 +6,7 @@ use Rattle.compiled_schema.specs.Usable.{set_of}
 use Rattle.compiled_schema.specs.declared.compiled.Compiled.{Compiled}
 use Rattle.doc_nodes.specs.Nodes.{Nodes, is_element_at}
 use Rattle.doc_changes.specs.Held.{parent_at}
-use Rattle.doc_documents.specs.Readers.{element_numbers}
+use Rattle.doc_changes.specs.Readers.{element_numbers}
 use Rattle.doc_edits.specs.declared.change.Change.{Change}
 use Rattle.doc_edits.specs.declared.change.Change.TheVariants as changes
 use Rattle.kept_children.specs.from_kept_records.Fit.{head_at}

@@ -20,13 +20,13 @@ ghost use Rattle.kept_changes.specs.Turned.{AreTurnedBy, Goes};
 ghost use Rattle.kept_changes.specs.Steps.{Takes, TakesBelow};
 
 use crate::own::{reattribute, rename, retext};
-use kept_children::child_lists::place_of;
 use compiled_schema::Compiled;
 use doc_edits::{Change, make_change};
 use doc_tree::DocTree;
-use kept_children::{put_child, take_child};
+use kept_children::child_lists::place_of;
 use kept_children::kept_forgetting::forget_below;
 use kept_children::kept_state::KeptState;
+use kept_children::{put_child, take_child};
 use plain_tree::Tree;
 use std::alloc::AllocError;
 use tree_rows::NodeKind;

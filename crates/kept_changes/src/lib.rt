@@ -5,6 +5,6 @@ mod change;
 mod laws;
 mod own;
 
-pub use kept_children::kept_state;
 pub use change::{Spot, follow, keep_change, owner_of, prune, removal, spot_of};
+pub use kept_children::kept_state;
 pub use laws::records_stay_right_as_names_are_added;

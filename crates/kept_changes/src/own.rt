@@ -12,15 +12,15 @@ ghost use Rattle.kept_children.specs.Edited.{IsRightFor};
 ghost use Rattle.kept_changes.specs.Own.{IsRetexted, IsReattributed, IsNamedAnew};
 ghost use Rattle.kept_changes.specs.Steps.{TakesAt, TakesName};
 
-use kept_children::child_lists::place_of;
 use compiled_schema::Compiled;
-use doc_texts::chars_of;
+use doc_readers::chars_of;
 use doc_tree::DocTree;
+use kept_children::child_lists::place_of;
 use kept_children::kept_above::settle_above;
 use kept_children::kept_below::settle_again;
-use kept_children::name_child;
 use kept_children::kept_judging::{judge, pair_again, pair_of_root};
 use kept_children::kept_state::{Governed, KeptState};
+use kept_children::name_child;
 use std::alloc::AllocError;
 use xsv_steps::{Ledger, Steps};
 

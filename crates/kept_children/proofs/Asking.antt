@@ -10,7 +10,7 @@ use Rattle.compiled_schema.specs.declared.compiled.Compiled.{Compiled}
 use Rattle.model_terms.specs.Terms.{is_ambivalent_symbol}
 use Rattle.doc_nodes.specs.Nodes.{Node, Nodes, node, IsSound, children_by, is_element_at, element_children}
 use Rattle.doc_changes.specs.Held.{parent_at}
-use Rattle.doc_documents.specs.Readers.{name_at}
+use Rattle.doc_changes.specs.Readers.{name_at}
 use Rattle.child_lists.specs.from_kept_records.Slots.{pair_at}
 use Rattle.child_lists.specs.from_kept_records.Fit.{models_of}
 use Rattle.child_lists.proofs.from_kept_records.Nodes.{child-parent}

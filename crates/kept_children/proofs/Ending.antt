@@ -9,8 +9,8 @@ use Rattle.assess_records.specs.declared.counts.ChildCounts.{ChildCounts}
 use Rattle.compiled_schema.specs.Usable.{set_of}
 use Rattle.compiled_schema.specs.declared.compiled.Compiled.{Compiled}
 use Rattle.model_lists.specs.Lists.{ListsView}
-use Rattle.doc_documents.proofs.Reading.{are_read}
-use Rattle.doc_heads.proofs.Reading.{readers_are}
+use Rattle.doc_changes.proofs.Reading.{are_read}
+use Rattle.doc_readers.proofs.Reading.{readers_are}
 use Rattle.doc_nodes.specs.Nodes.{Nodes, node, Has, IsSound, is_element_at, element_children}
 use Rattle.doc_changes.specs.Held.{parent_at}
 use Rattle.kept_slots.specs.Slots.{at}

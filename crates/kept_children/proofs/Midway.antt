@@ -15,22 +15,20 @@ use Rattle.kept_slots.specs.Slots.{at}
 use Rattle.child_lists.specs.from_kept_records.KeptElement.{KeptElement}
 use Rattle.child_lists.specs.from_kept_records.Slots.{IsMade, blank, kept_at, pair_at}
 use Rattle.child_lists.specs.from_kept_records.Fit.{models_of, IsListed}
-use Rattle.child_lists.proofs.from_kept_records.Nodes.{by-node, child-parent, root-there}
-use Rattle.child_lists.proofs.from_kept_records.Nodes.{there as there-node}
+use Rattle.child_lists.proofs.from_kept_records.Nodes.{by-node, child-parent, root-there, there as there-node}
 use Rattle.child_lists.specs.from_kept_state.Kept.{FitBut, IsBeside}
 use Rattle.child_lists.specs.from_kept_state.KeptChildren.{KeptChildren}
 use Rattle.child_lists.specs.from_kept_state.Governed.{Governed}
 use Rattle.child_lists.specs.from_kept_state.KeptState.{KeptState}
 use Rattle.child_lists.specs.from_kept_judging.Judged.{symbols_by, pair_by}
 use Rattle.kept_above.proofs.Climbing.{judged-kept}
-use Rattle.child_lists.proofs.from_kept_forgetting.Placed.{children-differ}
+use Rattle.child_lists.proofs.from_kept_forgetting.Placed.{children-differ, one-place}
 use Rattle.child_lists.specs.from_kept_forgetting.Below.{upwards, IsWithin}
 use Rattle.child_lists.proofs.from_kept_forgetting.Walks.{self-within, parent-outside, siblings-apart}
 use Rattle.kept_below.specs.Below.{IsSettled}
 use Rattle.child_lists.specs.Places.{IsPlaceOf}
 use Rattle.child_lists.specs.Family.{IsAttributed, AreGivenBut, IsMidway, model_of, symbols_of}
 use Rattle.child_lists.specs.declared.place.ChildPlace.{ChildPlace}
-use Rattle.child_lists.proofs.from_kept_forgetting.Placed.{one-place}
 
 -- ---- a child element is governed anew
 

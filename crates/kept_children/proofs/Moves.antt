@@ -10,7 +10,7 @@ use Rattle.compiled_schema.specs.declared.compiled.Compiled.{Compiled}
 use Rattle.edit_budgets.specs.Budget.{same_governing}
 use Rattle.doc_nodes.specs.Nodes.{Nodes, Has, element_children}
 use Rattle.doc_changes.specs.Stands.{StandFor}
-use Rattle.doc_documents.specs.Readers.{element_numbers, AreRead}
+use Rattle.doc_changes.specs.Readers.{element_numbers, AreRead}
 use Rattle.kept_slots.specs.Slots.{at}
 use Rattle.child_lists.specs.from_kept_records.KeptElement.{KeptElement}
 use Rattle.child_lists.specs.from_kept_records.Slots.{KeptSlots, IsMade, pair_at}

@@ -10,20 +10,19 @@ use Rattle.compiled_schema.specs.declared.compiled.Compiled.{Compiled}
 use Rattle.model_terms.specs.Symbols.{child_symbols}
 use Rattle.doc_nodes.specs.Nodes.{Node, Nodes, node, IsNode, Has, IsSound, is_element_at, children_by, element_children}
 use Rattle.doc_changes.specs.Held.{parent_at}
-use Rattle.doc_documents.specs.Readers.{name_by, name_at, chars_at, own_chars}
+use Rattle.doc_changes.specs.Readers.{name_by, name_at, chars_at, own_chars}
 use Rattle.child_lists.specs.from_kept_records.Slots.{IsMade, record_at}
 use Rattle.child_lists.specs.from_kept_records.Fit.{models_of, head_at, IsFit}
 use Rattle.child_lists.proofs.from_kept_records.Nodes.{by-node}
 use Rattle.child_lists.specs.from_kept_state.Kept.{IsBeside, children_at}
 use Rattle.child_lists.specs.from_kept_state.KeptState.{KeptState}
 use Rattle.child_lists.proofs.from_kept_judging.Anew.{fit-judged}
-use Rattle.child_lists.proofs.from_kept_forgetting.Placed.{children-differ, parent-has}
+use Rattle.child_lists.proofs.from_kept_forgetting.Placed.{children-differ, parent-has, one-place}
 use Rattle.kept_children.specs.Edited.{IsPlanted}
 use Rattle.child_lists.specs.Family.{AreCounted, IsListedBy, AreGivenBut, IsMidway, marked_places, model_of, symbols_of}
 use Rattle.child_lists.specs.Places.{IsPlaceOf}
 use Rattle.child_lists.specs.declared.place.ChildPlace.{ChildPlace}
 use Rattle.child_lists.proofs.Edits.{inserted-at, among-removed, passes, filter-remove, filter-same, flat-has, flat-remove}
-use Rattle.child_lists.proofs.from_kept_forgetting.Placed.{one-place}
 use Rattle.kept_children.proofs.Still.{IsStill, says-same, still-node, still-held, SeesNodes, ShowsSame, fit-nodes, sees-still, shows-still, head-still, judged-nodes, element-silent}
 use Rattle.child_lists.proofs.Terms.{symbols-remove}
 use Rattle.kept_children.proofs.Starting.{all-made, given-moved}

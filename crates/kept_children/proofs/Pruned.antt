@@ -11,7 +11,7 @@ use Rattle.compiled_schema.specs.declared.compiled.Compiled.{Compiled}
 use Rattle.model_terms.specs.Symbols.{child_symbols}
 use Rattle.doc_nodes.specs.Nodes.{Node, Nodes, node, IsNode, Has, IsSound, is_element_at, children_by, element_children}
 use Rattle.doc_changes.specs.Held.{parent_at}
-use Rattle.doc_documents.specs.Readers.{name_by, name_at, chars_at, own_chars}
+use Rattle.doc_changes.specs.Readers.{name_by, name_at, chars_at, own_chars}
 use Rattle.child_lists.specs.from_kept_records.Slots.{IsMade, record_at, blank, kept_at}
 use Rattle.child_lists.specs.from_kept_records.Fit.{models_of, head_at, IsFit, IsGiven, IsListed}
 use Rattle.child_lists.proofs.from_kept_records.Nodes.{by-node, root-there, there as there-node}
@@ -41,7 +41,6 @@ use Rattle.child_lists.proofs.from_kept_records.Counting.{counts-at}
 use Rattle.child_lists.proofs.from_kept_records.Lists.{listed-kept}
 use Rattle.kept_above.proofs.Climbing.{judged-kept}
 use Rattle.child_lists.specs.from_kept_state.Outcome.{Outcome}
-use Rattle.child_lists.proofs.from_kept_records.Nodes.{there as there-node}
 
 module _ (c : Compiled) (ns : Nodes) (k : KeptState) (spot : ChildPlace) (outcome : Outcome) (beside : IsBeside c ns k) (h : IsPruned c ns k spot outcome) where
   abbrev p : ℕ

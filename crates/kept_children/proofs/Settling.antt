@@ -6,8 +6,8 @@ use Rattle.elem_governing.specs.declared.pairs.Governing.{Governing}
 use Rattle.compiled_schema.specs.declared.compiled.Compiled.{Compiled}
 use Rattle.doc_nodes.specs.Nodes.{Nodes, node, Lacks, IsSound, depth_by, is_element_at}
 use Rattle.doc_changes.specs.Held.{parent_at}
-use Rattle.doc_documents.specs.Readers.{element_numbers}
-use Rattle.doc_documents.proofs.Reading.{depth_below}
+use Rattle.doc_changes.specs.Readers.{element_numbers}
+use Rattle.doc_changes.proofs.Reading.{depth_below}
 use Rattle.child_lists.specs.from_kept_records.Slots.{IsMade, pair_at}
 use Rattle.child_lists.specs.from_kept_records.Fit.{AboveIn}
 use Rattle.child_lists.specs.from_kept_state.Kept.{FitBut, IsBeside}

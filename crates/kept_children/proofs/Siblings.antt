@@ -16,8 +16,8 @@ use Rattle.edit_budgets.specs.Budget.{same_governing}
 use Rattle.doc_nodes.specs.Nodes.{Nodes, node, IsSound, depth_by, is_element_at, element_children}
 use Rattle.doc_changes.specs.Held.{parent_at}
 use Rattle.doc_changes.specs.Stands.{StandFor}
-use Rattle.doc_documents.specs.Readers.{element_numbers}
-use Rattle.doc_documents.proofs.Reading.{are_read}
+use Rattle.doc_changes.specs.Readers.{element_numbers}
+use Rattle.doc_changes.proofs.Reading.{are_read}
 use Rattle.kept_slots.specs.Slots.{at}
 use Rattle.child_lists.specs.from_kept_records.Slots.{KeptSlots, IsMade, pair_at}
 use Rattle.child_lists.proofs.from_kept_records.Nodes.{by-node, child-parent}

@@ -9,7 +9,7 @@ use Rattle.elem_governing.specs.Governing.{govern_child}
 use Rattle.compiled_schema.specs.Usable.{set_of}
 use Rattle.compiled_schema.specs.declared.compiled.Compiled.{Compiled}
 use Rattle.doc_nodes.specs.Nodes.{Node, Nodes, IsNode, Lacks, is_element_at, element_children}
-use Rattle.doc_documents.specs.Readers.{name_at}
+use Rattle.doc_changes.specs.Readers.{name_at}
 use Rattle.child_lists.specs.from_kept_records.Slots.{IsMade, pair_at}
 use Rattle.child_lists.specs.from_kept_records.Fit.{models_of, head_at, IsGiven}
 use Rattle.child_lists.proofs.from_kept_records.Made.{made-elements}

@@ -20,9 +20,9 @@ use Rattle.doc_nodes.specs.declared.content.Content.{Content}
 use Rattle.doc_nodes.specs.declared.content.Content.TheVariants as contents
 use Rattle.doc_nodes.specs.declared.content.NameBinding.{NameBinding}
 use Rattle.doc_changes.specs.Held.{chars_in, attributes_in, attributes_by, attributes_at, bindings_in, bindings_by, bindings_at, parent_at}
-use Rattle.doc_documents.specs.Readers.{name_at, chars_by, chars_at, own_chars, own_scope, scope_at}
-use Rattle.doc_documents.proofs.Reading.{scope_below, scope_root, depth_below}
-use Rattle.doc_heads.specs.Heads.{text_named, texts_named}
+use Rattle.doc_changes.specs.Readers.{name_at, chars_by, chars_at, own_chars, own_scope, scope_at}
+use Rattle.doc_changes.proofs.Reading.{scope_below, scope_root, depth_below}
+use Rattle.doc_readers.specs.Heads.{text_named, texts_named}
 use Rattle.child_lists.specs.from_kept_records.Slots.{KeptSlots, kept_at, entry_at, pair_at, record_at}
 use Rattle.child_lists.specs.from_kept_records.Fit.{Models, bearer_at, head_at, root_codes, symbols_at, IsListed, IsGiven, IsGathered, IsFit}
 use Rattle.child_lists.proofs.from_kept_records.Frames.{map-same}

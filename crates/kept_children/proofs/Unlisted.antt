@@ -9,7 +9,7 @@ use Rattle.elem_governing.specs.declared.pairs.Governing.{Governing}
 use Rattle.compiled_schema.specs.declared.compiled.Compiled.{Compiled}
 use Rattle.model_lists.proofs.Digits.{more_digits}
 use Rattle.doc_nodes.specs.Nodes.{Nodes, element_children}
-use Rattle.doc_documents.specs.Readers.{name_at}
+use Rattle.doc_changes.specs.Readers.{name_at}
 use Rattle.kept_slots.specs.Slots.{at}
 use Rattle.child_lists.specs.from_kept_records.Books.{IsBooked, KeptView}
 use Rattle.child_lists.specs.from_kept_records.KeptElement.{KeptElement}

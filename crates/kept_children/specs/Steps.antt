@@ -5,7 +5,7 @@ use Rattle.tree_rows.specs.Forest.{Forest}
 use Rattle.elem_governing.specs.declared.pairs.Governing.{Governing}
 use Rattle.compiled_schema.specs.declared.compiled.Compiled.{Compiled}
 use Rattle.doc_nodes.specs.Nodes.{Nodes, Lacks, element_children}
-use Rattle.doc_documents.specs.Readers.{element_numbers}
+use Rattle.doc_changes.specs.Readers.{element_numbers}
 use Rattle.child_lists.specs.from_kept_records.Slots.{pair_at}
 use Rattle.child_lists.specs.from_kept_state.KeptState.{KeptState}
 use Rattle.child_lists.specs.from_kept_judging.Judged.{pair_by}

@@ -20,13 +20,13 @@ ghost use Rattle.kept_below.specs.Below.{KeepsIdentity};
 ghost use Rattle.kept_children.specs.Steps.{GovernsBelow, LeaveRoom, TakeAtMost, digits, marked_count, places_of, width};
 
 use crate::marked::{settle_all_marked, settle_at};
+use child_lists::kept_judging::judge_if_apart;
+use child_lists::kept_state::{KeptChildren, KeptState, Outcome};
 use child_lists::{ChildPlace, govern_at, list_child, note_stuck, relist_child, unlist_child};
 use compiled_schema::Compiled;
 use doc_tree::DocTree;
 use kept_above::{recount, settle_above};
 use kept_below::settle_again;
-use child_lists::kept_judging::judge_if_apart;
-use child_lists::kept_state::{KeptChildren, KeptState, Outcome};
 use std::alloc::AllocError;
 use xsv_steps::{Ledger, Steps};
 

@@ -4,10 +4,8 @@
 mod edits;
 mod marked;
 
-pub use child_lists::kept_forgetting;
-pub use child_lists::kept_judging;
-pub use child_lists::kept_state;
 pub use child_lists;
+pub use child_lists::{kept_forgetting, kept_judging, kept_state};
+pub use edits::{name_child, put_child, take_child};
 pub use kept_above;
 pub use kept_below;
-pub use edits::{name_child, put_child, take_child};

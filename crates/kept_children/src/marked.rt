@@ -15,12 +15,12 @@ ghost use Rattle.kept_children.specs.Edited.{IsSettledAt};
 ghost use Rattle.kept_below.specs.Below.{KeepsIdentity};
 ghost use Rattle.kept_children.specs.Steps.{GovernsBelow, LeaveRoom, TakeAtMost, digits, marked_count, places_of, width};
 
+use child_lists::kept_state::KeptState;
 use child_lists::{ChildPlace, govern_at, list_of};
 use compiled_schema::Compiled;
 use doc_tree::DocTree;
 use kept_above::recount;
 use kept_below::settle_below;
-use child_lists::kept_state::KeptState;
 use std::alloc::AllocError;
 use xsv_steps::{Ledger, Steps};
 

@@ -9,7 +9,7 @@ use Rattle.assessment.specs.Local.{HasElement}
 use Rattle.doc_nodes.specs.Nodes.{Node, Nodes, node, IsNode, Has, IsSound, depth_by, is_element_at}
 use Rattle.doc_changes.specs.Held.{parent_at}
 use Rattle.doc_changes.specs.Stands.{StandFor, StandsFor, firsts}
-use Rattle.doc_documents.proofs.Reading.{depth_below}
+use Rattle.doc_changes.proofs.Reading.{depth_below}
 use Rattle.kept_state.proofs.from_kept_records.Nodes.{has-element, root-there, there}
 use Rattle.kept_forgetting.proofs.Walks.{parent-of}
 

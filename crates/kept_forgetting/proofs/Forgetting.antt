@@ -12,7 +12,7 @@ use Rattle.model_lists.specs.declared.handle.ModelList.{ModelList}
 use Rattle.doc_nodes.specs.Nodes.{Nodes, node, IsSound, depth_by, children_by, is_element_at, element_children}
 use Rattle.doc_changes.specs.Held.{parent_at}
 use Rattle.doc_changes.specs.Stands.{StandsFor}
-use Rattle.doc_documents.proofs.Reading.{depth_below}
+use Rattle.doc_changes.proofs.Reading.{depth_below}
 use Rattle.kept_slots.specs.Slots.{at, Writes}
 use Rattle.kept_state.specs.from_kept_records.KeptElement.{KeptElement}
 use Rattle.kept_state.specs.from_kept_records.Slots.{IsMade, blank, kept_at}

@@ -5,7 +5,7 @@ use Rattle.std.specs.Option.{option_and_then}
 use Rattle.std.proofs.lemmas.Option.{same_Some, none-some}
 use Rattle.doc_nodes.specs.Nodes.{Node, Nodes, node, IsNode, Has, IsSound, depth_by}
 use Rattle.doc_changes.specs.Held.{parent_at}
-use Rattle.doc_documents.proofs.Reading.{depth_below}
+use Rattle.doc_changes.proofs.Reading.{depth_below}
 use Rattle.kept_forgetting.specs.Below.{upwards, IsBelow, IsWithin}
 
 module _ (ns : Nodes) where

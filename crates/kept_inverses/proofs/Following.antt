@@ -4,8 +4,8 @@ use Rattle.std.proofs.lemmas.Option.{none-some}
 use Rattle.xs_names.specs.Names.{NameTable}
 use Rattle.tree_rows.specs.Forest.{Document}
 use Rattle.tree_rows.specs.declared.row.NodeKind.TheVariants as kinds
-use Rattle.tree_inverses.specs.Changes as law
-use Rattle.tree_inverses.specs.Sites.{site_of}
+use Rattle.tree_edits.specs.Inverses as law
+use Rattle.tree_edits.specs.Sites.{site_of}
 use Rattle.compiled_schema.specs.declared.compiled.Compiled.{Compiled}
 use Rattle.doc_nodes.specs.Nodes.{Nodes, IsSound, is_element, is_element_by, is_element_at}
 use Rattle.doc_nodes.specs.declared.content.Content.{Content}
@@ -14,13 +14,13 @@ use Rattle.doc_changes.specs.Held.{kind_at, parent_at}
 use Rattle.doc_changes.specs.Stands.{StandsFor}
 use Rattle.doc_changes.proofs.Holding.{HoldsElement, holds_element}
 use Rattle.doc_edits.specs.declared.change.Change.TheVariants as edits
-use Rattle.doc_inverses.specs.Changes.{Means, IsMade, written_number}
-use Rattle.doc_inverses.specs.declared.change.Change.{Change}
-use Rattle.doc_inverses.specs.declared.change.Change.TheVariants as changes
-use Rattle.doc_inverses.specs.declared.part.PartRow.{PartRow}
-use Rattle.doc_inverses.proofs.Meaning.{puts_back, takes, names, writes, rewords}
-use Rattle.doc_inverses.proofs.Own.{element_kind, text_kind}
-use Rattle.doc_inverses.proofs.Seated.{is_at}
+use Rattle.doc_tree.specs.Changes.{Means, IsMade, written_number}
+use Rattle.doc_tree.specs.declared.change.Change.{Change}
+use Rattle.doc_tree.specs.declared.change.Change.TheVariants as changes
+use Rattle.doc_tree.specs.declared.part.PartRow.{PartRow}
+use Rattle.doc_tree.proofs.Meaning.{puts_back, takes, names, writes, rewords}
+use Rattle.doc_tree.proofs.Own.{element_kind, text_kind}
+use Rattle.doc_tree.proofs.Seated.{is_at}
 use Rattle.kept_changes.specs.Turned.{TurnsAt}
 use Rattle.kept_changes.proofs.Turned.{turned-at}
 use Rattle.kept_changes.specs.from_kept_state.KeptState.{KeptState}

@@ -10,12 +10,12 @@ use Rattle.compiled_schema.specs.declared.compiled.Compiled.{Compiled}
 use Rattle.doc_nodes.specs.Nodes.{Node, Nodes, node, IsNode, IsSound, is_element, is_element_by, is_element_at}
 use Rattle.doc_changes.specs.Stands.{StandsFor}
 use Rattle.doc_changes.proofs.Standing.{has_times}
-use Rattle.doc_planting.proofs.Placing.{IsParent, parent_of}
-use Rattle.tree_inverses.specs.Changes.{CanPutBack}
-use Rattle.tree_inverses.specs.Sites.{first_number}
-use Rattle.tree_inverses.proofs.Twice.{absent, own_one}
-use Rattle.doc_inverses.specs.Parts.{IsPart, Grafts}
-use Rattle.doc_inverses.specs.declared.part.PartRow.{PartRow}
+use Rattle.doc_changes.proofs.Placing.{IsParent, parent_of}
+use Rattle.tree_edits.specs.Inverses.{CanPutBack}
+use Rattle.tree_edits.specs.Sites.{first_number}
+use Rattle.tree_edits.proofs.Twice.{absent, own_one}
+use Rattle.doc_tree.specs.Parts.{IsPart, Grafts}
+use Rattle.doc_tree.specs.declared.part.PartRow.{PartRow}
 use Rattle.kept_changes.specs.Own.{Retexts}
 use Rattle.kept_changes.specs.Turned.{TurnsAt}
 use Rattle.kept_changes.proofs.Turned.{comes-there}
@@ -72,8 +72,8 @@ module _ (c : Compiled) (old new : Nodes) (k : KeptState) (r : IsRightFor c old 
     texts-returned =
         let above = parent-node c.names old new d z p place (text n chars next) can grafts in
         text-came c.names old new d z p place above.0 above.1 n (grafts-come c.names old new d z p place (text n chars next) can grafts) (ap is_element_by (free))
-              (ap is_element_by grafts.stand.0.is ∙ ap is_element grafts.stand.0.content)
-              (λ m other gone. ap is_element_by (grafts.others m (not-among m other) (λ e. none-some above.0 (sym gone ∙ ap (node old) e ∙ above.1)) ∙ gone))
+        (ap is_element_by grafts.stand.0.is ∙ ap is_element grafts.stand.0.content)
+        (λ m other gone. ap is_element_by (grafts.others m (not-among m other) (λ e. none-some above.0 (sym gone ∙ ap (node old) e ∙ above.1)) ∙ gone))
 
     pub text-returned : HasChangedAt c new k (Retexted p)
     text-returned = record { old = old; right = r; element = parent-is c.names old new d z p place (text n chars next) can grafts; retexts = texts-returned }

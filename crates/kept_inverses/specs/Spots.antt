@@ -5,9 +5,9 @@ use Rattle.doc_nodes.specs.Nodes.{Nodes}
 use Rattle.doc_nodes.specs.declared.content.Content.{Content}
 use Rattle.doc_nodes.specs.declared.content.Content.TheVariants as contents
 use Rattle.doc_changes.specs.Held.{parent_at}
-use Rattle.doc_inverses.specs.declared.change.Change.{Change}
-use Rattle.doc_inverses.specs.declared.change.Change.TheVariants as changes
-use Rattle.doc_inverses.specs.declared.part.PartRow.{PartRow}
+use Rattle.doc_tree.specs.declared.change.Change.{Change}
+use Rattle.doc_tree.specs.declared.change.Change.TheVariants as changes
+use Rattle.doc_tree.specs.declared.part.PartRow.{PartRow}
 use Rattle.kept_changes.specs.Spots.{IsRemoval}
 use Rattle.kept_changes.specs.from_kept_forgetting.Below.{IsWithin}
 use Rattle.kept_changes.specs.Turned.{TurnsAt}

@@ -6,9 +6,9 @@ use Rattle.doc_nodes.specs.Nodes.{Nodes, is_element_at}
 use Rattle.doc_nodes.specs.declared.content.Content.{Content}
 use Rattle.doc_nodes.specs.declared.content.Content.TheVariants as contents
 use Rattle.doc_changes.specs.Held.{parent_at}
-use Rattle.doc_inverses.specs.declared.change.Change.{Change}
-use Rattle.doc_inverses.specs.declared.change.Change.TheVariants as changes
-use Rattle.doc_inverses.specs.declared.part.PartRow.{PartRow}
+use Rattle.doc_tree.specs.declared.change.Change.{Change}
+use Rattle.doc_tree.specs.declared.change.Change.TheVariants as changes
+use Rattle.doc_tree.specs.declared.part.PartRow.{PartRow}
 use Rattle.kept_changes.specs.from_kept_records.Fit.{head_at}
 use Rattle.kept_changes.specs.from_kept_records.Slots.{pair_at}
 use Rattle.kept_changes.specs.from_kept_state.KeptState.{KeptState}

@@ -3,11 +3,11 @@
 ghost use Rattle.std.specs.Prelude.{◌≡◌, ◌⊎◌, ◌≤◌, ◌<◌, ◌+◌, ℕ, Some, length, true, IfOk, OnOk};
 ghost use Rattle.xs_names.specs.Names.{NameTable};
 ghost use Rattle.tree_rows.specs.Forest.{Document};
-ghost use Rattle.tree_inverses.specs.Changes as law;
+ghost use Rattle.tree_edits.specs.Inverses as law;
 ghost use Rattle.doc_nodes.specs.Nodes.{is_element_at};
 ghost use Rattle.doc_changes.specs.Held.{parent_at};
 ghost use Rattle.doc_changes.specs.Stands.{StandsFor};
-ghost use Rattle.doc_inverses.specs.Changes.{Means};
+ghost use Rattle.doc_tree.specs.Changes.{Means};
 ghost use Rattle.kept_changes.specs.from_kept_children.Edited.{IsRightFor};
 ghost use Rattle.kept_inverses.specs.Spots.{AreTurnedOver, IsSpotOf, IsReturn, IsTakenOut};
 ghost use Rattle.kept_changes.specs.Turned.{Goes};
@@ -18,11 +18,10 @@ ghost use Rattle.kept_changes.specs.Steps.{TakesBelow};
 ghost use Rattle.kept_changes.specs.from_kept_children.Steps.{width};
 
 use compiled_schema::Compiled;
-use doc_inverses::{Change, Part};
 use doc_nodes::Content;
-use doc_tree::DocTree;
-use kept_changes::{Spot, follow, owner_of, prune, removal};
+use doc_tree::{Change, DocTree, Part};
 use kept_changes::kept_state::KeptState;
+use kept_changes::{Spot, follow, owner_of, prune, removal};
 use std::alloc::AllocError;
 use xsv_steps::{Ledger, Steps};
 

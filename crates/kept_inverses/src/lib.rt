@@ -4,5 +4,5 @@
 mod change;
 
 pub use change::{keep_inverse, spot_of};
-pub use kept_changes::kept_state;
 pub use kept_changes;
+pub use kept_changes::kept_state;

@@ -14,16 +14,15 @@ use Rattle.tree_rows.specs.declared.row.NodeKind.{NodeKind}
 use Rattle.tree_rows.specs.declared.row.NodeKind.TheVariants as kinds
 use Rattle.assess_records.specs.declared.shape.NamedText.{NamedText}
 use Rattle.elem_governing.specs.View.{AreKnown}
-use Rattle.doc_nodes.specs.Nodes.{Node, Nodes, node, depth_by, is_element_by, is_element_at, is_element}
-use Rattle.doc_nodes.specs.Nodes.{IsSound as AreSound}
+use Rattle.doc_nodes.specs.Nodes.{Node, Nodes, node, depth_by, is_element_by, is_element_at, is_element, IsSound as AreSound}
 use Rattle.doc_nodes.specs.declared.content.Content.{Content}
 use Rattle.doc_nodes.specs.declared.content.Content.TheVariants as contents
 use Rattle.doc_changes.specs.Held.{kind_in, kind_at, parent_at, attributes_at, bindings_at}
 use Rattle.doc_changes.specs.Stands.{StandsFor}
-use Rattle.doc_documents.specs.Readers.{own_scope, outer_scope, scope_upto, scope_at}
-use Rattle.doc_documents.proofs.Reading.{scope_below, scope_root, depth_below}
-use Rattle.doc_heads.specs.Heads.{text_named, texts_named, pair_of}
-use Rattle.doc_heads.proofs.Showing.{are_numbers}
+use Rattle.doc_changes.specs.Readers.{own_scope, outer_scope, scope_upto, scope_at}
+use Rattle.doc_changes.proofs.Reading.{scope_below, scope_root, depth_below}
+use Rattle.doc_readers.specs.Heads.{text_named, texts_named, pair_of}
+use Rattle.doc_readers.proofs.Showing.{are_numbers}
 use Rattle.kept_state.proofs.from_kept_records.Nodes.{shown, root-there}
 
 -- ---- a number of an element

@@ -14,8 +14,8 @@ use Rattle.compiled_schema.specs.declared.compiled.Compiled.{Compiled}
 use Rattle.tree_assess.specs.Entries.{entry_of}
 use Rattle.tree_assess.specs.declared.entry.ElementEntry.{ElementEntry}
 use Rattle.doc_nodes.specs.Nodes.{Nodes}
-use Rattle.doc_documents.specs.Readers.{name_at, own_chars, scope_at}
-use Rattle.doc_heads.specs.Heads.{texts_named}
+use Rattle.doc_changes.specs.Readers.{name_at, own_chars, scope_at}
+use Rattle.doc_readers.specs.Heads.{texts_named}
 use Rattle.kept_state.specs.from_kept_records.KeptElement.{KeptElement}
 use Rattle.kept_state.specs.from_kept_records.Books.{IsBooked}
 use Rattle.kept_state.specs.from_kept_records.Slots.{IsKept, kept_at, entry_at, pair_at}

@@ -17,12 +17,12 @@ use Rattle.elem_governing.specs.declared.pairs.Governing.{Governing}
 use Rattle.elem_governing.specs.declared.pairs.Mode.{Mode}
 use Rattle.elem_governing.specs.declared.pairs.Mode.TheVariants.{Strict, Lax, Skip}
 use Rattle.elem_governing.proofs.There.{root-there, child-there}
-use Rattle.elem_regoverning.specs.Again.{regoverned}
+use Rattle.elem_governing.specs.Again.{regoverned}
 use Rattle.compiled_schema.specs.Usable.{IsUsable, set_of}
 use Rattle.compiled_schema.specs.declared.compiled.Compiled.{Compiled}
 use Rattle.doc_nodes.specs.Nodes.{Nodes}
-use Rattle.doc_documents.specs.Readers.{name_at, scope_at}
-use Rattle.doc_heads.specs.Heads.{texts_named}
+use Rattle.doc_changes.specs.Readers.{name_at, scope_at}
+use Rattle.doc_readers.specs.Heads.{texts_named}
 use Rattle.kept_state.specs.from_kept_records.Fit.{head_at}
 use Rattle.kept_state.specs.Kept.{CanGovern}
 use Rattle.kept_judging.specs.Judged.{root_pair, given_pair, again_pair}

@@ -6,7 +6,7 @@ use Rattle.assess_records.specs.Numbered.{Head, shape_of}
 use Rattle.assess_records.specs.declared.shape.ElementShape.{ElementShape}
 use Rattle.elem_governing.specs.Governing.{govern_root, govern_child}
 use Rattle.elem_governing.specs.declared.pairs.Governing.{Governing}
-use Rattle.elem_regoverning.specs.Again.{regoverned}
+use Rattle.elem_governing.specs.Again.{regoverned}
 use Rattle.assessment.specs.Attribution.{SchemaSet}
 use Rattle.assessment.specs.Assessment.{AreJudged}
 use Rattle.compiled_schema.specs.Usable.{set_of}
@@ -14,8 +14,8 @@ use Rattle.compiled_schema.specs.declared.compiled.Compiled.{Compiled}
 use Rattle.model_terms.specs.Symbols.{child_symbols}
 use Rattle.model_terms.specs.Terms.{stuck_in, term_in}
 use Rattle.doc_nodes.specs.Nodes.{Nodes, element_children}
-use Rattle.doc_documents.specs.Readers.{name_at, own_chars}
-use Rattle.doc_heads.specs.Heads.{texts_named}
+use Rattle.doc_changes.specs.Readers.{name_at, own_chars}
+use Rattle.doc_readers.specs.Heads.{texts_named}
 use Rattle.kept_state.specs.from_kept_records.KeptElement.{KeptElement}
 use Rattle.kept_state.specs.from_kept_records.Slots.{IsMade, kept_at, entry_at, pair_at, record_at}
 use Rattle.kept_state.specs.from_kept_records.Fit.{models_of, root_codes, IsListed, head_at, bearer_at}

@@ -7,7 +7,7 @@ ghost use Rattle.assessment.specs.Assessment.{AreJudged};
 ghost use Rattle.compiled_schema.specs.Usable.{IsUsable, set_of};
 ghost use Rattle.tree_assess.specs.Entries as entries;
 ghost use Rattle.doc_nodes.specs.Nodes.{is_element_at};
-ghost use Rattle.doc_documents.specs.Readers.{own_chars};
+ghost use Rattle.doc_changes.specs.Readers.{own_chars};
 ghost use Rattle.kept_state.specs.from_kept_records.Fit.{bearer_at};
 ghost use Rattle.kept_state.specs.from_kept_records.Slots.{IsMade, kept_at, pair_at};
 ghost use Rattle.kept_state.specs.Kept.{CanGovern, IsBeside, IsFreeFor, children_at};

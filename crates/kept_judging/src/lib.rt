@@ -5,7 +5,7 @@ mod governing;
 mod judging;
 mod view;
 
-pub use kept_state::kept_records;
-pub use kept_state;
 pub use governing::{pair_again, pair_below, pair_of_root};
 pub use judging::{judge, judge_if_apart, keep_judged};
+pub use kept_state;
+pub use kept_state::kept_records;

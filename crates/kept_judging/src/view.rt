@@ -5,9 +5,9 @@ ghost use Rattle.std.specs.Option.{option_map};
 ghost use Rattle.elem_governing.specs.Heads.{head_by};
 ghost use Rattle.doc_nodes.specs.Nodes.{IsSound, is_element_at};
 ghost use Rattle.doc_changes.specs.Held.{parent_at};
-ghost use Rattle.doc_documents.specs.Readers as readers;
-ghost use Rattle.doc_documents.specs.Readers.{name_at};
-ghost use Rattle.doc_heads.specs.Heads.{texts_named};
+ghost use Rattle.doc_changes.specs.Readers as readers;
+ghost use Rattle.doc_changes.specs.Readers.{name_at};
+ghost use Rattle.doc_readers.specs.Heads.{texts_named};
 
 use assess_records::{InstanceAttribute, instance_text};
 use compiled_schema::Compiled;

@@ -3,7 +3,7 @@ use Rattle.std.proofs.Common.{◌≡◌, ℕ, zero, suc, ◌+◌, ◌-◌, ◌<�
 use Rattle.std.specs.Prelude.{slice_get, filter}
 use Rattle.std.proofs.lemmas.Option.{same_Some, none-some, slice_get_past}
 use Rattle.identity_constraints.specs.Seen.{none, element}
-use Rattle.identity_assessment.specs.Identity.{seen_element}
+use Rattle.what_is_found.specs.Identity.{seen_element}
 use Rattle.tree_assess.specs.Entries.{entry_of}
 use Rattle.doc_nodes.specs.Nodes.{Nodes, node, children_by, is_element_at, element_children}
 use Rattle.kept_slots.specs.Slots.{at}

@@ -7,7 +7,7 @@ use Rattle.identity_tables.specs.Ids.{borne_in, borne_in_all}
 use Rattle.assessment.specs.Bearings.{bearings_below, bearings, borne_of, borne_values}
 use Rattle.assessment.specs.Local.{HasElement}
 use Rattle.identity_constraints.specs.Seen as keys
-use Rattle.identity_assessment.specs.Identity.{seen}
+use Rattle.what_is_found.specs.Identity.{seen}
 use Rattle.doc_nodes.specs.Nodes.{Nodes}
 use Rattle.kept_above.specs.from_kept_records.Slots.{KeptSlots, entry_at}
 use Rattle.kept_above.specs.from_kept_records.Found.{found_in}

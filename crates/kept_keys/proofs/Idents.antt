@@ -6,7 +6,7 @@ use Rattle.identity_tables.specs.Ids.{BorneAtom, id_codes}
 use Rattle.identity_tables.specs.Table.{IsTableOf}
 use Rattle.assessment.specs.Bearings.{borne_values}
 use Rattle.identity_constraints.specs.Seen.{KeyForest}
-use Rattle.identity_assessment.specs.Identity.{seen}
+use Rattle.what_is_found.specs.Identity.{seen}
 use Rattle.compiled_schema.specs.declared.compiled.Compiled.{Compiled}
 use Rattle.doc_nodes.specs.Nodes.{Nodes}
 use Rattle.kept_above.specs.from_kept_records.Slots.{IsMade, kept_at}

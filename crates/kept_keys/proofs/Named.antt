@@ -9,13 +9,13 @@ use Rattle.assessment.specs.Local.{HasElement}
 use Rattle.assessment_laws.specs.There.{IsThere}
 use Rattle.assessment_laws.proofs.There.{attrs-there}
 use Rattle.identity_constraints.specs.Seen.{KeyAttribute}
-use Rattle.identity_assessment.specs.Identity.{seen, seen_attributes, seen_element}
+use Rattle.what_is_found.specs.Identity.{seen, seen_attributes, seen_element}
 use Rattle.path_walk.specs.Sight.{IsNamed, AreNamed}
 use Rattle.compiled_schema.specs.declared.compiled.Compiled.{Compiled}
 use Rattle.doc_nodes.specs.Nodes.{Nodes}
-use Rattle.doc_documents.specs.Readers.{scope_at}
-use Rattle.doc_heads.specs.Heads.{texts_named}
-use Rattle.doc_heads.proofs.Showing.{name_number}
+use Rattle.doc_changes.specs.Readers.{scope_at}
+use Rattle.doc_readers.specs.Heads.{texts_named}
+use Rattle.doc_readers.proofs.Showing.{name_number}
 use Rattle.kept_above.specs.from_kept_records.Slots.{IsMade, entry_at, pair_at}
 use Rattle.kept_above.specs.from_kept_records.Found.{found_in}
 use Rattle.kept_above.proofs.from_kept_judging.Heads.{element-kind, texts-named}

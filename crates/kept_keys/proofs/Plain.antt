@@ -6,8 +6,8 @@ use Rattle.xs_names.specs.Names.{NameTable}
 use Rattle.xs_codes.specs.declared.fault.Found.{Found}
 use Rattle.xs_components.specs.Tables.{Tables}
 use Rattle.xs_components.specs.declared.constraint.Constraint.{Constraint}
-use Rattle.identity_paths.specs.Reads.{ArePathsOf, AreIdentities}
-use Rattle.identity_paths.specs.declared.paths.IdentityPaths.{IdentityPaths}
+use Rattle.xpath_subset.specs.Reads.{ArePathsOf, AreIdentities}
+use Rattle.xpath_subset.specs.declared.paths.IdentityPaths.{IdentityPaths}
 use Rattle.identity_constraints.specs.Seen.{KeyElement, KeyForest, none, element}
 use Rattle.identity_constraints.specs.Targets.{constraints_of}
 use Rattle.identity_constraints.specs.Satisfied.{codes_by, identity_codes, identity_at}

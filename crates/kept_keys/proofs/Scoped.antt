@@ -5,7 +5,7 @@ use Rattle.std.proofs.lemmas.List.{length_push, map_push, same_from_push}
 use Rattle.xs_codes.specs.declared.fault.Found.{Found}
 use Rattle.tree_rows.specs.Forest.{Document}
 use Rattle.identity_constraints.specs.Seen.{KeyForest}
-use Rattle.identity_assessment.specs.Identity.{seen}
+use Rattle.what_is_found.specs.Identity.{seen}
 use Rattle.compiled_schema.specs.declared.compiled.Compiled.{Compiled}
 use Rattle.doc_nodes.specs.Nodes.{Nodes, Lacks}
 use Rattle.kept_above.specs.from_kept_records.Slots.{IsMade, kept_at}

@@ -6,10 +6,10 @@ use Rattle.tree_rows.specs.Forest.{Forest, none, text, element, count}
 use Rattle.assessment.specs.Local.{AreRead, HasElement, element_numbers}
 use Rattle.identity_constraints.specs.Seen as keys
 use Rattle.identity_constraints.specs.Seen.{KeyForest}
-use Rattle.identity_assessment.specs.Identity.{seen, seen_element}
+use Rattle.what_is_found.specs.Identity.{seen, seen_element}
 use Rattle.tree_assess.specs.Entries.{entry_of}
 use Rattle.doc_nodes.specs.Nodes.{Nodes, element_children}
-use Rattle.doc_heads.specs.Heads.{readers_of}
+use Rattle.doc_readers.specs.Heads.{readers_of}
 use Rattle.kept_slots.specs.Slots.{at}
 use Rattle.kept_above.specs.from_kept_records.KeptElement.{KeptElement}
 use Rattle.kept_above.specs.from_kept_records.Slots.{KeptSlots, IsMade, blank, entry_at}

@@ -22,14 +22,14 @@ use Rattle.assessment.specs.Attribution.{SchemaSet}
 use Rattle.assessment.specs.Assessment.{Entry, judged_of, AreJudged}
 use Rattle.assessment_laws.proofs.Judged.{local-is}
 use Rattle.attr_assess.specs.Added.{AreNamed}
-use Rattle.identity_assessment.specs.Identity.{seen_element, seen_attributes}
-use Rattle.identity_assessment.proofs.Shapes.{local-again}
+use Rattle.what_is_found.specs.Identity.{seen_element, seen_attributes}
+use Rattle.what_is_found.proofs.Shapes.{local-again}
 use Rattle.model_terms.specs.Symbols.{child_symbols}
 use Rattle.model_terms.specs.Terms.{stuck_in}
 use Rattle.model_lists.specs.Lists.{ListsView}
 use Rattle.doc_nodes.specs.Nodes.{Nodes, element_children}
-use Rattle.doc_documents.specs.Readers.{name_at, own_chars}
-use Rattle.doc_heads.specs.Heads.{texts_named}
+use Rattle.doc_changes.specs.Readers.{name_at, own_chars}
+use Rattle.doc_readers.specs.Heads.{texts_named}
 use Rattle.kept_above.specs.from_kept_records.Slots.{KeptSlots, kept_at, entry_at, pair_at, record_at}
 use Rattle.kept_above.specs.from_kept_records.Fit.{Models, root_codes, head_at, shape_at, IsFit}
 

@@ -7,7 +7,7 @@ use Rattle.attr_assess.specs.Added.{AreNamed}
 use Rattle.assessment.specs.Bearings.{borne_values}
 use Rattle.assessment.specs.Local.{HasElement}
 use Rattle.identity_constraints.specs.Seen.{KeyForest}
-use Rattle.identity_assessment.specs.Identity.{seen}
+use Rattle.what_is_found.specs.Identity.{seen}
 use Rattle.compiled_schema.specs.Usable.{set_of}
 use Rattle.compiled_schema.specs.declared.compiled.Compiled.{Compiled}
 use Rattle.doc_nodes.specs.Nodes.{Nodes}

@@ -14,8 +14,8 @@ use Rattle.model_terms.specs.Symbols.{child_symbols}
 use Rattle.model_terms.specs.Terms.{stuck_in}
 use Rattle.model_lists.specs.Lists.{ListsView}
 use Rattle.doc_nodes.specs.Nodes.{Nodes, element_children}
-use Rattle.doc_documents.specs.Readers.{name_at, own_chars}
-use Rattle.doc_heads.specs.Heads.{texts_named}
+use Rattle.doc_changes.specs.Readers.{name_at, own_chars}
+use Rattle.doc_readers.specs.Heads.{texts_named}
 use Rattle.kept_slots.specs.Slots.{at}
 use Rattle.kept_above.specs.from_kept_records.KeptElement.{KeptElement}
 use Rattle.kept_above.specs.from_kept_records.Slots.{IsKept, IsMade, blank, kept_at, entry_at, pair_at, record_at}

@@ -1,7 +1,7 @@
 -- What identity constraints see of what is kept of the elements of a document (Structures 3.11.4).
 use Rattle.std.specs.Prelude.{◌≡◌, ℕ, zero, suc, ◌+◌, ◌<◌, ◌^◌, List, [], ◌∷◌, ◌++◌, drop, slice_get, Option, None, Some}
 use Rattle.identity_constraints.specs.Seen.{KeyForest, none, element}
-use Rattle.identity_assessment.specs.Identity.{seen_element}
+use Rattle.what_is_found.specs.Identity.{seen_element}
 use Rattle.tree_assess.specs.Entries.{entry_of}
 use Rattle.doc_nodes.specs.Nodes.{Nodes, element_children}
 use Rattle.kept_slots.specs.Slots.{at}

@@ -2,7 +2,7 @@
 
 ghost use Rattle.std.specs.Prelude.{◌≡◌, ◌++◌, map, IfOk, OnOk};
 ghost use Rattle.tree_rows.specs.Forest.{Document};
-ghost use Rattle.identity_assessment.specs.Identity.{seen};
+ghost use Rattle.what_is_found.specs.Identity.{seen};
 ghost use Rattle.kept_above.specs.from_kept_records.Found.{IsOver, found_in};
 ghost use Rattle.kept_keys.specs.Keys.{IsWhole, codes_at};
 ghost use Rattle.kept_keys.specs.Seen.{numbers_in};

@@ -2,7 +2,7 @@
 
 ghost use Rattle.std.specs.Prelude.{◌≡◌, ◌≢◌, ◌↔◌, ℕ, [], ◌∷◌, IsTrue, OnOk};
 ghost use Rattle.tree_rows.specs.Forest.{Document};
-ghost use Rattle.identity_assessment.specs.Identity.{seen};
+ghost use Rattle.what_is_found.specs.Identity.{seen};
 ghost use Rattle.identity_tables.specs.Ids.{id_codes};
 ghost use Rattle.assessment.specs.Bearings.{borne_values};
 ghost use Rattle.compiled_schema.specs.Usable.{set_of};
@@ -16,9 +16,9 @@ use crate::codes::{NumberedCodes, codes_of};
 use assess_records::Codes;
 use compiled_schema::Compiled;
 use doc_tree::DocTree;
-use kept_above::settle_above;
 use kept_above::kept_judging::judge;
 use kept_above::kept_state::{Governed, KeptState};
+use kept_above::settle_above;
 use std::alloc::AllocError;
 
 // Judges an element again whose codes of identity constraints, or of IDs, are others, and makes the records above it right.

@@ -4,7 +4,7 @@ ghost use Rattle.std.specs.Prelude.{◌≡◌, ◌+◌, ◌<◌, ◌^◌, [], �
 ghost use Rattle.tree_rows.specs.Forest.{Document, count};
 ghost use Rattle.doc_changes.specs.Stands.{StandsFor};
 ghost use Rattle.identity_constraints.specs.Seen.{none};
-ghost use Rattle.identity_assessment.specs.Identity.{seen_element};
+ghost use Rattle.what_is_found.specs.Identity.{seen_element};
 ghost use Rattle.xs_names.specs.Names.{NameTable};
 ghost use Rattle.path_walk.specs.Sight as sight;
 ghost use Rattle.tree_assess.specs.Entries.{entry_of};

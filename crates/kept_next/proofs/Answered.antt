@@ -8,12 +8,12 @@ use Rattle.content_automaton.specs.Symbols.{symbol_of}
 use Rattle.content_automaton.specs.Terms.{ExpandedName}
 use Rattle.content_models.specs.Built.{symbols_of}
 use Rattle.assessment.specs.Attribution.{SchemaSet}
-use Rattle.next_names.specs.Next.{FitsAs, next_line, lines_of, lines_below, fits_below}
-use Rattle.next_names.specs.declared.symbol.Fit.{Fit}
-use Rattle.next_names.specs.declared.symbol.Fit.TheVariants.{No}
-use Rattle.next_names.specs.declared.symbol.SymbolName.{SymbolName}
-use Rattle.next_names.specs.declared.symbol.SymbolName.TheVariants.{Other}
-use Rattle.next_names.specs.declared.order.Symbol.{Symbol}
+use Rattle.kept_next.specs.Next.{FitsAs, next_line, lines_of, lines_below, fits_below}
+use Rattle.kept_next.specs.declared.symbol.Fit.{Fit}
+use Rattle.kept_next.specs.declared.symbol.Fit.TheVariants.{No}
+use Rattle.kept_next.specs.declared.symbol.SymbolName.{SymbolName}
+use Rattle.kept_next.specs.declared.symbol.SymbolName.TheVariants.{Other}
+use Rattle.kept_next.specs.declared.order.Symbol.{Symbol}
 use Rattle.kept_next.specs.Words.{IsWordBy, IsNameOf}
 use Rattle.kept_next.specs.Place.{ListPlace, IsPlaceBy, name_at, fits_at}
 use Rattle.kept_next.specs.Answers.{Answer, AreAnswers, answer_at, answers_by, answers_of, lines, count}

@@ -11,9 +11,9 @@ use Rattle.assessment.specs.Attribution.{SchemaSet}
 use Rattle.assessment.specs.Fitting.{IsAutomatonFor}
 use Rattle.model_terms.specs.Terms.{begins, is_word}
 use Rattle.model_terms.proofs.Along.{begins-front}
-use Rattle.next_names.specs.Next.{FitsAs}
-use Rattle.next_names.specs.declared.symbol.Fit.{Fit}
-use Rattle.next_names.specs.declared.symbol.Fit.TheVariants.{No, Prefix, Word}
+use Rattle.kept_next.specs.Next.{FitsAs}
+use Rattle.kept_next.specs.declared.symbol.Fit.{Fit}
+use Rattle.kept_next.specs.declared.symbol.Fit.TheVariants.{No, Prefix, Word}
 use Rattle.kept_next.specs.Words.{IsWordBy, IsWordIn, fit_by}
 use Rattle.kept_next.proofs.Words.{begins-more, are-symbols, word-names, names-word, begun-names, word-begins}
 

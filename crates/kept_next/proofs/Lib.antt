@@ -1,3 +1,7 @@
+mod LineSymbols
+pub mod LineFits
+pub mod Orders
+mod Pushing
 pub mod Words
 pub mod Symbols
 pub mod Fits

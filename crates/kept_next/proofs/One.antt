@@ -9,14 +9,14 @@ use Rattle.content_automaton.specs.Symbols.{SymbolTable, AreSymbolsOf}
 use Rattle.content_automaton.specs.Terms.{ExpandedName, name_at}
 use Rattle.content_automaton.proofs.Items.{contains_cases, none_contained}
 use Rattle.content_models.specs.Terms.{model_terms}
-use Rattle.next_names.specs.Next.{FitsAs}
-use Rattle.next_names.specs.Order.{IsOrderOf}
-use Rattle.next_names.specs.declared.order.Symbol.{Symbol}
-use Rattle.next_names.specs.declared.symbol.Fit.{Fit}
-use Rattle.next_names.specs.declared.symbol.Fit.TheVariants.{No}
-use Rattle.next_names.specs.declared.symbol.SymbolName.{SymbolName}
-use Rattle.next_names.specs.declared.symbol.SymbolName.TheVariants.{Name, Namespace, Other}
-use Rattle.next_names.proofs.Fits.{one-fit}
+use Rattle.kept_next.specs.Next.{FitsAs}
+use Rattle.kept_next.specs.Order.{IsOrderOf}
+use Rattle.kept_next.specs.declared.order.Symbol.{Symbol}
+use Rattle.kept_next.specs.declared.symbol.Fit.{Fit}
+use Rattle.kept_next.specs.declared.symbol.Fit.TheVariants.{No}
+use Rattle.kept_next.specs.declared.symbol.SymbolName.{SymbolName}
+use Rattle.kept_next.specs.declared.symbol.SymbolName.TheVariants.{Name, Namespace, Other}
+use Rattle.kept_next.proofs.LineFits.{one-fit}
 use Rattle.kept_next.specs.Answers.{Answer, AreAnswers, PlaceQuestion, answer_at}
 use Rattle.kept_next.specs.Words.{HasNone, IsNameOf, IsWordBy}
 use Rattle.kept_next.proofs.Printed.{as-often, order-same}

@@ -12,16 +12,16 @@ use Rattle.content_models.specs.declared.automaton.ContentAutomaton.{ContentAuto
 use Rattle.content_models.specs.declared.automaton.ContentAutomaton.TheVariants.{States, All}
 use Rattle.assessment.specs.Attribution.{SchemaSet}
 use Rattle.assessment.proofs.Walking.{kept-now, symbols-known}
-use Rattle.model_rows.specs.Maps.{leaf_of}
+use Rattle.model_summaries.specs.Maps.{leaf_of}
 use Rattle.model_terms.specs.Symbols.{AreSymbolsBy}
 use Rattle.model_terms.specs.Terms.{is_ambivalent_symbol}
 use Rattle.model_lists.specs.Lists.{ListsView, RowLists, MemberLists, HasLeaves, IsRowList, IsMemberList, IsListIn, IsListOf, member_of}
 use Rattle.model_lists.specs.Around.{LeadTo}
 use Rattle.model_lists.specs.declared.around.ChildState.{ChildState}
 use Rattle.model_lists.specs.declared.handle.ModelList.{ModelList}
-use Rattle.next_names.specs.Next.{AreFits, FitsAs}
-use Rattle.next_names.specs.declared.symbol.Fit.{Fit}
-use Rattle.next_names.specs.declared.symbol.SymbolName.TheVariants.{Other}
+use Rattle.kept_next.specs.Next.{AreFits, FitsAs}
+use Rattle.kept_next.specs.declared.symbol.Fit.{Fit}
+use Rattle.kept_next.specs.declared.symbol.SymbolName.TheVariants.{Other}
 use Rattle.kept_next.specs.Words.{IsWordBy, IsWordIn, IsNameOf, fit_by}
 use Rattle.kept_next.specs.Place.{ListPlace, IsPlaceBy, IsPlace, AreAround, LeadBefore, LeadWith, LeadAfter, list_most, children_in, entries_in, entries_of, leaves_in, name_at, number_at, fits_at}
 use Rattle.kept_next.proofs.Words.{are-symbols}

@@ -17,12 +17,12 @@ use Rattle.std.proofs.lemmas.Option.{slice_get-get_or, get_or_from_slice_get}
 use Rattle.xs_names.specs.Names.{NameTable, IsSound, space_of, local_of}
 use Rattle.xs_names.specs.Numbering.{HasNoRepeats}
 use Rattle.content_automaton.proofs.Items.{contains_cases, contains_tail, contains_head, none_contained}
-use Rattle.next_names.specs.Next.{IsNamed}
-use Rattle.next_names.specs.Order.{IsOrderOf, is_before, kind_of, local_name, numbered, print_order, space_name, symbols_of}
-use Rattle.next_names.specs.declared.order.Symbol.{Symbol}
-use Rattle.next_names.specs.declared.symbol.SymbolName.{SymbolName}
-use Rattle.next_names.specs.declared.symbol.SymbolName.TheVariants.{Name, Namespace, Other}
-use Rattle.next_names.proofs.Orders.{print-total}
+use Rattle.kept_next.specs.Next.{IsNamed}
+use Rattle.kept_next.specs.Order.{IsOrderOf, is_before, kind_of, local_name, numbered, print_order, space_name, symbols_of}
+use Rattle.kept_next.specs.declared.order.Symbol.{Symbol}
+use Rattle.kept_next.specs.declared.symbol.SymbolName.{SymbolName}
+use Rattle.kept_next.specs.declared.symbol.SymbolName.TheVariants.{Name, Namespace, Other}
+use Rattle.kept_next.proofs.Orders.{print-total}
 
 -- ---- sums
 
@@ -222,8 +222,8 @@ module _ (t : NameTable) (sound : IsSound t) where
   rises (x ∷ xs) up = (
     (λ n d l. sorted_far (is_before t) (ranks_by (print-total t) (λ (y : Symbol). y.name)) (x ∷ xs) up 0 (suc n) d (omega arith) (omega (arith, l))),
     rises xs (λ k d low high.
-    let next : suc k + 1 ≡ suc (k + 1) = omega arith in
-    subst (λ (n : ℕ). is_before t (get_or (x ∷ xs) n d) (get_or xs k d) ≡ false) next (up (suc k) d (omega arith) (omega (arith, high)))),
+        let next : suc k + 1 ≡ suc (k + 1) = omega arith in
+        subst (λ (n : ℕ). is_before t (get_or (x ∷ xs) n d) (get_or xs k d) ≡ false) next (up (suc k) d (omega arith) (omega (arith, high)))),
   )
 
   among-all : (Q : SymbolName → Type 0) (a : SymbolName) (xs : List Symbol) → All (λ (x : Symbol). Q x.name) xs → 0 < count a xs → Q a

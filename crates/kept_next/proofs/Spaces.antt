@@ -16,9 +16,9 @@ use Rattle.assessment.specs.Attribution.{SchemaSet}
 use Rattle.content_models.specs.declared.automaton.ContentAutomaton.{ContentAutomaton}
 use Rattle.assessment.specs.Fitting.{IsAutomatonFor}
 use Rattle.assessment.proofs.Walking.{kept-now, symbols-known}
-use Rattle.next_names.specs.Next.{IsNamed}
-use Rattle.next_names.specs.declared.order.Symbol.{Symbol}
-use Rattle.next_names.specs.declared.symbol.SymbolName.TheVariants.{Other}
+use Rattle.kept_next.specs.Next.{IsNamed}
+use Rattle.kept_next.specs.declared.order.Symbol.{Symbol}
+use Rattle.kept_next.specs.declared.symbol.SymbolName.TheVariants.{Other}
 use Rattle.kept_next.specs.Spaces.{AreSpacesOf, HasSpacesNamed, named_spaces}
 use Rattle.kept_next.specs.Place.{ListPlace, IsPlaceBy, name_at}
 use Rattle.kept_next.proofs.Places.{table-of}

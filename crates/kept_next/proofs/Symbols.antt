@@ -13,10 +13,10 @@ use Rattle.content_automaton.specs.Terms.{ExpandedName, name_at}
 use Rattle.content_automaton.specs.Symbols.{SymbolTable, AreNamesOf, symbol_of, count_of}
 use Rattle.content_automaton.proofs.Items.{contains_get}
 use Rattle.content_automaton.proofs.Symboling.{same, own_of, space_number, among, own_number}
-use Rattle.next_names.specs.declared.symbol.SymbolName.{SymbolName}
-use Rattle.next_names.specs.declared.symbol.SymbolName.TheVariants.{Name, Namespace, Other}
-use Rattle.next_names.specs.Order.{IsOrderOf, numbered, symbols_of}
-use Rattle.next_names.specs.declared.order.Symbol.{Symbol}
+use Rattle.kept_next.specs.declared.symbol.SymbolName.{SymbolName}
+use Rattle.kept_next.specs.declared.symbol.SymbolName.TheVariants.{Name, Namespace, Other}
+use Rattle.kept_next.specs.Order.{IsOrderOf, numbered, symbols_of}
+use Rattle.kept_next.specs.declared.order.Symbol.{Symbol}
 use Rattle.kept_next.specs.Words.{HasNone, IsNameOf}
 
 module _ (P : Symbol → Type 0) where

@@ -8,11 +8,11 @@ use Rattle.std.proofs.Math.Nat.{mul_comm}
 use Rattle.child_trees.specs.Bits.{bits}
 use Rattle.model_lists.proofs.Digits.{more_digits}
 use Rattle.xs_names.specs.Names.{NameTable}
-use Rattle.next_names.specs.Next.{fits_below, lines_below}
-use Rattle.next_names.specs.Order.{IsOrderOf, numbered, symbols_of}
-use Rattle.next_names.specs.declared.order.Symbol.{Symbol}
-use Rattle.next_names.specs.declared.symbol.SymbolName.{SymbolName}
-use Rattle.next_names.specs.declared.symbol.SymbolName.TheVariants.{Name, Namespace, Other}
+use Rattle.kept_next.specs.Next.{fits_below, lines_below}
+use Rattle.kept_next.specs.Order.{IsOrderOf, numbered, symbols_of}
+use Rattle.kept_next.specs.declared.order.Symbol.{Symbol}
+use Rattle.kept_next.specs.declared.symbol.SymbolName.{SymbolName}
+use Rattle.kept_next.specs.declared.symbol.SymbolName.TheVariants.{Name, Namespace, Other}
 use Rattle.kept_next.specs.Answers.{answers_of, cost, reply}
 use Rattle.kept_next.specs.Place.{ListPlace, fits_at, name_at}
 use Rattle.kept_next.proofs.Answered.{lines-same, counts-same}

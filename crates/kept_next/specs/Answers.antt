@@ -9,13 +9,13 @@ use Rattle.content_automaton.specs.Terms.{ExpandedName}
 use Rattle.content_models.specs.Built.{symbols_of}
 use Rattle.content_models.specs.Terms.{model_terms}
 use Rattle.assessment.specs.Attribution.{SchemaSet}
-use Rattle.next_names.specs.Next.{FitsAs, IsNamed, next_line, lines_of}
-use Rattle.next_names.specs.Order.{IsOrderOf}
-use Rattle.next_names.specs.declared.order.Symbol.{Symbol}
-use Rattle.next_names.specs.declared.symbol.Fit.{Fit}
-use Rattle.next_names.specs.declared.symbol.Fit.TheVariants.{No}
-use Rattle.next_names.specs.declared.symbol.SymbolName.{SymbolName}
-use Rattle.next_names.specs.declared.symbol.SymbolName.TheVariants.{Other}
+use Rattle.kept_next.specs.Next.{FitsAs, IsNamed, next_line, lines_of}
+use Rattle.kept_next.specs.Order.{IsOrderOf}
+use Rattle.kept_next.specs.declared.order.Symbol.{Symbol}
+use Rattle.kept_next.specs.declared.symbol.Fit.{Fit}
+use Rattle.kept_next.specs.declared.symbol.Fit.TheVariants.{No}
+use Rattle.kept_next.specs.declared.symbol.SymbolName.{SymbolName}
+use Rattle.kept_next.specs.declared.symbol.SymbolName.TheVariants.{Other}
 use Rattle.kept_next.specs.Place.{ListPlace, name_at, fits_at}
 use Rattle.kept_next.specs.Words.{IsNameOf, IsWordBy}
 

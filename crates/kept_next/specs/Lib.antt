@@ -1,3 +1,6 @@
+pub mod Order
+pub mod Next
+pub mod inside
 pub mod Words
 pub mod Spaces
 pub mod Place

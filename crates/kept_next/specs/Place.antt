@@ -13,11 +13,11 @@ use Rattle.model_lists.specs.Lists.{ListsView, RowLists, IsListOf}
 use Rattle.model_lists.specs.Around.{LeadTo}
 use Rattle.model_lists.specs.declared.handle.ModelList.{ModelList}
 use Rattle.model_lists.specs.declared.around.ChildState.{ChildState}
-use Rattle.next_names.specs.declared.symbol.Fit.{Fit}
-use Rattle.next_names.specs.declared.symbol.SymbolName.{SymbolName}
-use Rattle.next_names.specs.declared.symbol.SymbolName.TheVariants.{Other}
-use Rattle.next_names.specs.Order.{IsOrderOf}
-use Rattle.next_names.specs.declared.order.Symbol.{Symbol}
+use Rattle.kept_next.specs.declared.symbol.Fit.{Fit}
+use Rattle.kept_next.specs.declared.symbol.SymbolName.{SymbolName}
+use Rattle.kept_next.specs.declared.symbol.SymbolName.TheVariants.{Other}
+use Rattle.kept_next.specs.Order.{IsOrderOf}
+use Rattle.kept_next.specs.declared.order.Symbol.{Symbol}
 use Rattle.kept_next.specs.Spaces.{HasSpacesNamed}
 use Rattle.kept_next.specs.Words.{fit_by}
 

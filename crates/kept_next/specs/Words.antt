@@ -10,10 +10,10 @@ use Rattle.content_models.specs.declared.automaton.ContentAutomaton.{ContentAuto
 use Rattle.assessment.specs.Attribution.{SchemaSet}
 use Rattle.model_terms.specs.Symbols.{AreSymbolsBy}
 use Rattle.model_terms.specs.Terms.{begins, is_word}
-use Rattle.next_names.specs.declared.symbol.Fit.{Fit}
-use Rattle.next_names.specs.declared.symbol.Fit.TheVariants.{No, Prefix, Word}
-use Rattle.next_names.specs.declared.symbol.SymbolName.{SymbolName}
-use Rattle.next_names.specs.declared.symbol.SymbolName.TheVariants.{Name, Namespace, Other}
+use Rattle.kept_next.specs.declared.symbol.Fit.{Fit}
+use Rattle.kept_next.specs.declared.symbol.Fit.TheVariants.{No, Prefix, Word}
+use Rattle.kept_next.specs.declared.symbol.SymbolName.{SymbolName}
+use Rattle.kept_next.specs.declared.symbol.SymbolName.TheVariants.{Name, Namespace, Other}
 
 -- the names are those of a word of the content model of a particle (Structures 3.8.4)
 abbrev pub IsWordBy : SchemaSet → ℕ → List ExpandedName → Type 0

@@ -5,10 +5,9 @@ ghost use Rattle.kept_next.specs.Words.{fit_by};
 ghost use Rattle.content_models.specs.declared.automaton.ContentAutomaton.{ContentAutomaton as ContentAutomatonData};
 ghost use Rattle.model_lists.specs.Around.{LeadTo};
 
-use crate::AroundAt;
+use crate::{Around, AroundAt, Fit, SymbolName};
 use content_models::ContentAutomaton;
 use model_lists::ChildState;
-use next_names::{Around, Fit, SymbolName};
 use xsv_steps::{Ledger, Steps};
 
 impl Around for AroundAt<'_> {

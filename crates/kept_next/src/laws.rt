@@ -9,7 +9,7 @@ ghost use Rattle.assessment.specs.Attribution.{SchemaSet};
 ghost use Rattle.model_lists.specs.Lists.{ListsView, IsListOf};
 ghost use Rattle.model_lists.specs.declared.handle.ModelList.{ModelList as ModelListData};
 ghost use Rattle.xs_names.specs.Names.{NameTable};
-ghost use Rattle.next_names.specs.Next.{AreFits, FitsAs, IsNamed, fits_below, lines_below};
+ghost use Rattle.kept_next.specs.Next.{AreFits, FitsAs, IsNamed, fits_below, lines_below};
 ghost use Rattle.kept_next.specs.Answers.{Answer, AreAnswers, PlaceQuestion, answers_by, answers_of, count, lines};
 ghost use Rattle.kept_next.specs.Place.{AreAround, IsPlaceBy, ListPlace, children_in, fits_at, name_at, number_at};
 ghost use Rattle.kept_next.specs.Words.{IsNameOf, IsWordBy, IsWordIn};

@@ -3,13 +3,13 @@ ghost use Rattle.content_automaton.specs.Terms.{ExpandedName};
 ghost use Rattle.assessment.specs.Attribution.{SchemaSet};
 ghost use Rattle.content_automaton.specs.Symbols.{AreNamesOf};
 ghost use Rattle.content_models.specs.Built.{symbols_of};
-ghost use Rattle.next_names.specs.Order.{IsOrderOf};
+ghost use Rattle.kept_next.specs.Order.{IsOrderOf};
 ghost use Rattle.kept_next.specs.Place.{IsListBy, IsPlaceBy};
 ghost use Rattle.kept_next.specs.Spaces.{AreSpacesOf};
 
+use crate::{Symbol, symbol_order};
 use content_models::ContentAutomaton;
 use model_lists::{ModelList, ModelLists};
-use next_names::{Symbol, symbol_order};
 use std::alloc::{AllocError, Global};
 use std::marker::Model;
 use xs_names::Names;
@@ -22,7 +22,7 @@ pub struct ChildList<'a> {
     pub automaton: &'a ContentAutomaton,
 }
 
-/// A place of a list of child elements: which names may stand there is asked of it (`next_names`).
+/// A place of a list of child elements: which names may stand there is asked of it by `Around`.
 #[derive(Drop)]
 pub struct AroundAt<'a> {
     pub(crate) lists: &'a ModelLists,

@@ -7,9 +7,8 @@ ghost use Rattle.assessment.specs.Attribution.{SchemaSet};
 ghost use Rattle.kept_next.specs.Answers.{answers_by, cost, reply};
 ghost use Rattle.kept_next.specs.Place.{IsPlaceBy, children_in};
 
-use crate::AroundAt;
 use crate::laws::{places_are_named, places_have_answers, places_have_fits};
-use next_names::write_next;
+use crate::{AroundAt, write_next};
 use xs_names::Names;
 use xsv_io::{Failed, Part, Sink, write_parts};
 use xsv_steps::{Ledger, Steps};

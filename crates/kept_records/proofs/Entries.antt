@@ -7,8 +7,8 @@ use Rattle.tree_rows.specs.Forest.{Forest, none, text, element}
 use Rattle.assessment.specs.Assessment.{Entry, entries}
 use Rattle.assessment.specs.Local.{Kept, HasElement, kept_entries}
 use Rattle.session_model.specs.Asking.{entry_at}
-use Rattle.slot_sums.specs.Elements as sums
-use Rattle.slot_sums.proofs.Sums.{has-or-not}
+use Rattle.kept_slots.specs.Elements as sums
+use Rattle.kept_slots.proofs.ElementSums.{has-or-not}
 
 -- ---- elements, as they are summed
 

@@ -17,8 +17,8 @@ use Rattle.model_lists.specs.Lists.{ListsView, KeepLists}
 use Rattle.model_lists.specs.declared.handle.ModelList.{ModelList}
 use Rattle.doc_nodes.specs.Nodes.{Nodes, node, Has, Lacks, IsSound, is_element_at, element_children}
 use Rattle.doc_changes.specs.Held.{parent_at}
-use Rattle.doc_documents.specs.Readers.{name_at, own_chars}
-use Rattle.doc_heads.specs.Heads.{texts_named}
+use Rattle.doc_changes.specs.Readers.{name_at, own_chars}
+use Rattle.doc_readers.specs.Heads.{texts_named}
 use Rattle.kept_slots.specs.Slots.{at, Writes}
 use Rattle.kept_records.specs.declared.element.KeptElement.{KeptElement}
 use Rattle.kept_records.specs.Slots.{KeptSlots, IsMade, blank, kept_at, pair_at, record_at}

@@ -11,9 +11,9 @@ use Rattle.compiled_schema.specs.Usable.{set_of}
 use Rattle.compiled_schema.specs.declared.compiled.Compiled.{Compiled}
 use Rattle.doc_nodes.specs.Nodes.{Node, Nodes, IsNode, element_children}
 use Rattle.doc_changes.specs.Held.{parent_at}
-use Rattle.doc_documents.proofs.Reading.{are_read}
-use Rattle.doc_heads.proofs.Reading.{readers_are}
-use Rattle.doc_heads.specs.Heads.{readers_of}
+use Rattle.doc_changes.proofs.Reading.{are_read}
+use Rattle.doc_readers.proofs.Reading.{readers_are}
+use Rattle.doc_readers.specs.Heads.{readers_of}
 use Rattle.model_lists.specs.Lists.{ListsView}
 use Rattle.kept_records.specs.Slots.{KeptSlots, IsMade, kept_at}
 use Rattle.kept_records.specs.Fit.{models_of, IsGiven, IsFit}

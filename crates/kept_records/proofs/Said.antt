@@ -11,7 +11,7 @@ use Rattle.assessment.specs.Bearings.{borne_values}
 use Rattle.assessment.specs.Joined.{is_root}
 use Rattle.compiled_schema.specs.Usable.{set_of}
 use Rattle.compiled_schema.specs.declared.compiled.Compiled.{Compiled}
-use Rattle.identity_assessment.specs.Identity.{beside_of}
+use Rattle.what_is_found.specs.Identity.{beside_of}
 use Rattle.what_is_found.specs.IsFound.{IsFound}
 use Rattle.doc_nodes.specs.Nodes.{Nodes}
 use Rattle.model_lists.specs.Lists.{ListsView}

@@ -28,10 +28,10 @@ use Rattle.model_terms.specs.Terms.{stuck_in, term_in, terms_in}
 use Rattle.model_terms.proofs.Runs.{runs-are}
 use Rattle.model_lists.specs.Lists.{ListsView}
 use Rattle.doc_nodes.specs.Nodes.{Nodes, element_children}
-use Rattle.doc_documents.specs.Readers.{name_at, own_chars, own_scope, scope_at}
-use Rattle.doc_documents.proofs.Reading.{scope_below, scope_root, depth_below}
-use Rattle.doc_heads.specs.Heads.{readers_of, texts_named}
-use Rattle.doc_heads.proofs.Showing.{name_shown, texts_shown, scope_shown}
+use Rattle.doc_changes.specs.Readers.{name_at, own_chars, own_scope, scope_at}
+use Rattle.doc_changes.proofs.Reading.{scope_below, scope_root, depth_below}
+use Rattle.doc_readers.specs.Heads.{readers_of, texts_named}
+use Rattle.doc_readers.proofs.Showing.{name_shown, texts_shown, scope_shown}
 use Rattle.kept_records.specs.Slots.{KeptSlots, IsMade, kept_at, entry_at, pair_at, record_at}
 use Rattle.kept_records.specs.Fit.{models_of, head_at, model_at, symbols_at, shape_at}
 use Rattle.kept_records.specs.Found.{AreSettled, SaysKept, read_as, found_in}

@@ -15,11 +15,11 @@ use Rattle.assessment.specs.Bearings.{Bearing, bearings, bearings_below, borne_o
 use Rattle.assessment.specs.Local.{AreRead, HasElement, kept_entries, element_numbers}
 use Rattle.tree_assess.specs.Entries.{entry_of}
 use Rattle.session_model.specs.Asking.{entry_total, code_total}
-use Rattle.slot_sums.specs.Elements.{element_sum}
-use Rattle.slot_sums.specs.Elements as sums
-use Rattle.slot_sums.proofs.Sums.{sums_are}
+use Rattle.kept_slots.specs.Elements.{element_sum}
+use Rattle.kept_slots.specs.Elements as sums
+use Rattle.kept_slots.proofs.ElementSums.{sums_are}
 use Rattle.doc_nodes.specs.Nodes.{Nodes, element_children}
-use Rattle.doc_heads.specs.Heads.{readers_of}
+use Rattle.doc_readers.specs.Heads.{readers_of}
 use Rattle.kept_slots.specs.Slots.{at, weigh, slot_sum}
 use Rattle.kept_records.specs.declared.element.KeptElement.{KeptElement}
 use Rattle.kept_records.specs.Slots.{KeptSlots, IsMade, blank, kept_at, entry_at}

@@ -21,8 +21,8 @@ use Rattle.model_lists.specs.Lists.{ListsView, IsListOf}
 use Rattle.model_lists.specs.declared.handle.ModelList.{ModelList}
 use Rattle.doc_nodes.specs.Nodes.{Nodes, Has, Lacks, element_children}
 use Rattle.doc_changes.specs.Held.{parent_at}
-use Rattle.doc_documents.specs.Readers.{name_at, own_chars, scope_at}
-use Rattle.doc_heads.specs.Heads.{texts_named}
+use Rattle.doc_changes.specs.Readers.{name_at, own_chars, scope_at}
+use Rattle.doc_readers.specs.Heads.{texts_named}
 use Rattle.kept_records.specs.Slots.{KeptSlots, IsMade, kept_at, entry_at, pair_at, record_at}
 
 -- the automaton of the content model of each type, if it has one

@@ -9,10 +9,10 @@ use Rattle.assessment.specs.Bearings.{borne_values}
 use Rattle.assessment.specs.Local.{Kept, kept_entries}
 use Rattle.compiled_schema.specs.Usable.{IsUsable, set_of}
 use Rattle.compiled_schema.specs.declared.compiled.Compiled.{Compiled}
-use Rattle.identity_assessment.specs.Identity.{seen}
+use Rattle.what_is_found.specs.Identity.{seen}
 use Rattle.doc_nodes.specs.Nodes.{Nodes, is_element_at}
 use Rattle.doc_changes.specs.Stands.{StandsFor}
-use Rattle.doc_documents.specs.Readers.{scope_at}
+use Rattle.doc_changes.specs.Readers.{scope_at}
 use Rattle.model_lists.specs.Lists.{ListsView}
 use Rattle.kept_records.specs.Slots.{KeptSlots, IsMade, kept_at, entry_at}
 use Rattle.kept_records.specs.Fit.{models_of, root_codes, IsTop, AllFitBut}

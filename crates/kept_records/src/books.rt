@@ -8,7 +8,7 @@ ghost use Rattle.tree_assess.specs.Entries.{entry_of};
 ghost use Rattle.kept_records.specs.Books.{atoms_of};
 
 use assess_records::Codes;
-use kept_ids::KeptIds;
+use identity_tables::KeptIds;
 use session_model::count_codes;
 use std::alloc::{AllocError, Global};
 use std::slice;

@@ -3,9 +3,9 @@ use Rattle.std.proofs.Common.{◌≡◌, ◌⊎◌, ◌+◌, ◌*◌, ◌≤◌,
 use Rattle.std.specs.Prelude.{nat_lt, not}
 use Rattle.simple_values.specs.declared.key.Key.{Key}
 use Rattle.identity_tables.specs.KeyTables.{Tables, own_count, IsOneMoreTuple}
-use Rattle.identity_counts.proofs.Bearers.{spot}
-use Rattle.identity_carry.specs.Tables.{KeyTuple, for_key, same_key_tuple}
-use Rattle.identity_carry.proofs.EntryLaws.{decides, own_kept, said_more, said_others}
+use Rattle.identity_constraints.proofs.Bearers.{spot}
+use Rattle.key_records.specs.Tables.{KeyTuple, for_key, same_key_tuple}
+use Rattle.key_records.proofs.CarriedEntryLaws.{decides, own_kept, said_more, said_others}
 use Rattle.key_records.specs.Faults.{weight}
 use Rattle.key_records.specs.References.{key_of, is_referred}
 use Rattle.key_records.specs.Records.{own_in, own_of, is_shown, unmatched, IsMatched, AreOnce, IsRematched}

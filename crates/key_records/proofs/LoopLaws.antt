@@ -1,7 +1,7 @@
 -- Entries made right one by one.
 use Rattle.std.proofs.Common.{◌≡◌, ◌⊎◌, ◌<◌, ℕ, List, [], ◌∷◌, length, inl, inr, ap, subst, arith}
 use Rattle.simple_values.specs.declared.key.Key.{Key}
-use Rattle.identity_counts.specs.Counting.{Has}
+use Rattle.identity_constraints.specs.Counting.{Has}
 use Rattle.key_records.specs.Records.{IsMatched, IsRematched}
 use Rattle.key_records.specs.declared.references.References.{References}
 use Rattle.key_records.specs.declared.records.KeyRecords.{KeyRecords}

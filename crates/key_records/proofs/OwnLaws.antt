@@ -4,10 +4,10 @@ use Rattle.std.specs.Prelude.{nat_lt, not, [], ◌∷◌}
 use Rattle.std.proofs.lemmas.Bool.{and_parts, eqb-true}
 use Rattle.simple_values.specs.declared.key.Key.{Key}
 use Rattle.identity_tables.specs.KeyTables.{Tables, own_count, IsOneMoreTuple}
-use Rattle.identity_counts.specs.Counting.{Has, Links}
-use Rattle.identity_counts.proofs.Bearers.{same_or_other}
-use Rattle.identity_carry.specs.Tables.{KeyTuple, for_key, same_key_tuple, is_in_table, AreSettled, IsOneMoreOwn}
-use Rattle.identity_carry.proofs.EntryLaws.{decides, own_more, said_kept}
+use Rattle.identity_constraints.specs.Counting.{Has, Links}
+use Rattle.identity_constraints.proofs.Bearers.{same_or_other}
+use Rattle.key_records.specs.Tables.{KeyTuple, for_key, same_key_tuple, is_in_table, AreSettled, IsOneMoreOwn}
+use Rattle.key_records.proofs.CarriedEntryLaws.{decides, own_more, said_kept}
 use Rattle.key_records.specs.Faults.{weight}
 use Rattle.key_records.specs.References.{AreReferences, key_of, keyrefs_of, is_referred}
 use Rattle.key_records.specs.Records.{own_in, own_of, is_shown, unmatched, IsMatched, AreBare, AreOnce, AreMatched, IsRematched, IsOneMoreTarget, IsChangedAt}

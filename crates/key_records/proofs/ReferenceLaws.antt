@@ -8,8 +8,8 @@ use Rattle.std.specs.declared.alloc.Global.{Global}
 use Rattle.std.proofs.lemmas.Bool.{eqb-true, eq-eqb}
 use Rattle.std.proofs.lemmas.Bool.Decides.{nat_tests}
 use Rattle.xs_names.proofs.NumberingLaws.{slice_get-push}
-use Rattle.identity_counts.specs.Counting.{Has}
-use Rattle.identity_carry.proofs.ToldLaws.{has-left, has-last}
+use Rattle.identity_constraints.specs.Counting.{Has}
+use Rattle.key_records.proofs.ToldLaws.{has-left, has-last}
 use Rattle.key_records.specs.References.{AreReferences, IsOneMoreKeyref, refers, key_of, keyrefs_of, items_of, has_any}
 use Rattle.key_records.specs.declared.references.References.{References}
 

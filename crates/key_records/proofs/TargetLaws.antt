@@ -7,11 +7,11 @@ use Rattle.std.proofs.lemmas.Bool.Decides.{nat_tests}
 use Rattle.xs_codes.specs.declared.code.Code.{Code}
 use Rattle.simple_values.specs.declared.key.Key.{Key}
 use Rattle.identity_tables.specs.KeyTables.{Tables, own_count}
-use Rattle.identity_counts.specs.Counting.{Links, Numbers, none, node, Has, firsts, StandFor, is_seen, bearers, bearing, is_visible, seen}
-use Rattle.identity_counts.proofs.Bearers.{same_or_other, bearers-alike}
-use Rattle.identity_counts.proofs.Exact.{seen_is}
-use Rattle.identity_carry.specs.Tables.{KeyTuple, AreSettled, for_key, own, said, same_key_tuple}
-use Rattle.identity_carry.proofs.EntryLaws.{decides}
+use Rattle.identity_constraints.specs.Counting.{Links, Numbers, none, node, Has, firsts, StandFor, is_seen, bearers, bearing, is_visible, seen}
+use Rattle.identity_constraints.proofs.Bearers.{same_or_other, bearers-alike}
+use Rattle.identity_constraints.proofs.Exact.{seen_is}
+use Rattle.key_records.specs.Tables.{KeyTuple, AreSettled, for_key, own, said, same_key_tuple}
+use Rattle.key_records.proofs.CarriedEntryLaws.{decides}
 use Rattle.key_records.specs.Counted.{Counted, plus, one_target, no_targets, own_tuples, with_keys, with_misuse, without_keys, with_nillable}
 use Rattle.key_records.specs.Faults.{AreMoreFaults, faults_at, no_faults, weight}
 use Rattle.key_records.specs.References.{AreReferences, key_of, keyrefs_of, is_referred, has_any}

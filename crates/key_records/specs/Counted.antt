@@ -2,7 +2,7 @@
 use Rattle.std.specs.Prelude.{ℕ, ◌+◌, ◌&&◌, nat_eq, Bool, false, List, Option, None, Some, is_none}
 use Rattle.simple_values.specs.declared.key.Key.{Key}
 use Rattle.identity_tables.specs.Tuple.{same_tuple}
-use Rattle.identity_carry.specs.Tables.{KeyTuple}
+use Rattle.key_records.specs.Tables.{KeyTuple}
 use Rattle.key_records.specs.Faults.{weight}
 use Rattle.key_records.specs.declared.targets.Target.{Target}
 

@@ -2,8 +2,8 @@
 use Rattle.std.specs.Prelude.{◌≡◌, ◌+◌, ◌*◌, ◌≤◌, ◌&&◌, ℕ, nat_eq, nat_lt, Bool, true, false, not, List, Some}
 use Rattle.simple_values.specs.declared.key.Key.{Key}
 use Rattle.identity_tables.specs.KeyTables.{Tables, own_count}
-use Rattle.identity_counts.specs.Counting.{Links}
-use Rattle.identity_carry.specs.Tables.{AreSettled, for_key, same_key_tuple, is_in_table}
+use Rattle.identity_constraints.specs.Counting.{Links}
+use Rattle.key_records.specs.Tables.{AreSettled, for_key, same_key_tuple, is_in_table}
 use Rattle.key_records.specs.Counted.{Counted, with_keys, with_misuse, without_keys, with_nillable}
 use Rattle.key_records.specs.Faults.{faults_at, weight}
 use Rattle.key_records.specs.References.{key_of, is_referred}

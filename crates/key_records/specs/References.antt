@@ -4,7 +4,7 @@ use Rattle.std.specs.Option.{option_and_then}
 use Rattle.std.specs.Map.{lookup}
 use Rattle.std.specs.declared.vec.Vec.{Vec}
 use Rattle.std.specs.declared.alloc.Global.{Global}
-use Rattle.identity_counts.specs.Counting.{Has}
+use Rattle.identity_constraints.specs.Counting.{Has}
 use Rattle.key_records.specs.declared.references.References.{References}
 
 -- the key or unique of each constraint that is a keyref

@@ -2,16 +2,15 @@
 
 ghost use Rattle.std.specs.Prelude.{◌≡◌, ◌≤◌, ◌<◌, ◌^◌, ◌&&◌, ◌↔◌, ℕ, List, nat_lt, not, IsTrue, IfOk, OnOk};
 ghost use Rattle.simple_values.specs.declared.key.Key.{Key};
-ghost use Rattle.identity_counts.specs.Counting.{Has, Links, IsLinked};
-ghost use Rattle.identity_carry.specs.Tables.{AreParents, AreSettled};
+ghost use Rattle.identity_constraints.specs.Counting.{Has, Links, IsLinked};
+ghost use Rattle.key_records.specs.Tables.{AreParents, AreSettled};
 ghost use Rattle.key_records.specs.Counted.{no_targets};
 ghost use Rattle.key_records.specs.References.{AreReferences};
 ghost use Rattle.key_records.specs.Records.{AreBare, AreMatched, AreOnce, AreRecords, IsChangedAt, IsMatched, IsOneMoreTarget, IsRematched, own_in, own_of, unmatched};
 ghost use Rattle.key_records.specs.declared.references.References.{References as TheReferences};
 
-use crate::References;
 use crate::faults::FaultCounts;
-use identity_carry::{add_tuple, drop_tuple, is_visible};
+use crate::{References, add_tuple, drop_tuple, is_visible};
 use identity_tables::{KeyTables, Tuple};
 use std::alloc::{AllocError, Global};
 

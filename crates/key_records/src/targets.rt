@@ -2,8 +2,8 @@
 
 ghost use Rattle.std.specs.Prelude.{◌≡◌, ◌≤◌, ◌<◌, ◌^◌, ◌↔◌, ℕ, List, Some, false, nat_lt, IsTrue, OnOk};
 ghost use Rattle.simple_values.specs.declared.key.Key.{Key};
-ghost use Rattle.identity_counts.specs.Counting.{Links, Numbers, IsLinked, StandFor, firsts, is_visible};
-ghost use Rattle.identity_carry.specs.Tables.{AreParents, for_key};
+ghost use Rattle.identity_constraints.specs.Counting.{Links, Numbers, IsLinked, StandFor, firsts, is_visible};
+ghost use Rattle.key_records.specs.Tables.{AreParents, for_key};
 ghost use Rattle.key_records.specs.Counted.{Counted, counted_of, own_tuples, plus, with_keys, with_misuse, without_keys, with_nillable};
 ghost use Rattle.key_records.specs.Faults.{faults_of};
 ghost use Rattle.key_records.specs.References.{AreReferences, key_of};

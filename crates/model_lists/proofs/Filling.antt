@@ -10,7 +10,7 @@ use Rattle.content_automaton.specs.Symbols.{count_of}
 use Rattle.content_models.specs.declared.automaton.ContentAutomaton.{ContentAutomaton}
 use Rattle.content_models.specs.declared.automaton.ContentAutomaton.TheVariants.{States}
 use Rattle.content_automaton.specs.Modelled.{ModelAutomaton}
-use Rattle.model_rows.specs.Maps.{width_of}
+use Rattle.model_summaries.specs.Maps.{width_of}
 use Rattle.model_terms.specs.Symbols.{AreSymbolsBy}
 use Rattle.model_terms.specs.Terms.{is_ambivalent_symbol}
 use Rattle.model_terms.proofs.Naming.{one-of, below-count}

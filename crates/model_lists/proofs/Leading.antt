@@ -14,11 +14,11 @@ use Rattle.content_models.specs.Modelled.{AllModel, letter_of}
 use Rattle.content_models.specs.declared.state.AllState.{AllState}
 use Rattle.content_models.specs.declared.automaton.ContentAutomaton.{ContentAutomaton}
 use Rattle.content_models.specs.declared.automaton.ContentAutomaton.TheVariants.{States, All}
-use Rattle.all_summary.specs.declared.map.AllMap.{AllMap}
-use Rattle.all_summary.specs.Masks.{acts, of_letter}
-use Rattle.all_summary.proofs.Running.{letters_are}
-use Rattle.model_rows.specs.Maps.{width_of, leaf_of}
-use Rattle.model_rows.proofs.Running.{rows_are, run-within}
+use Rattle.model_summaries.specs.declared.map.AllMap.{AllMap}
+use Rattle.model_summaries.specs.Masks.{acts, of_letter}
+use Rattle.model_summaries.proofs.MaskRunning.{letters_are}
+use Rattle.model_summaries.specs.Maps.{width_of, leaf_of}
+use Rattle.model_summaries.proofs.Running.{rows_are, run-within}
 use Rattle.model_terms.specs.Symbols.{AreSymbolsBy}
 use Rattle.model_terms.specs.Terms.{begins, is_word, is_ambivalent_symbol, stuck_in}
 use Rattle.model_terms.proofs.Along.{run-append}

@@ -7,7 +7,7 @@ use Rattle.child_trees.specs.Lists.{Entry, get, Updates, AreEntries, AreNew, ent
 use Rattle.content_automaton.specs.Modelled.{ModelAutomaton}
 use Rattle.content_models.specs.declared.automaton.ContentAutomaton.{ContentAutomaton}
 use Rattle.content_models.specs.declared.automaton.ContentAutomaton.TheVariants.{States, All}
-use Rattle.model_rows.specs.Maps.{width_of, leaf_of}
+use Rattle.model_summaries.specs.Maps.{width_of, leaf_of}
 use Rattle.model_terms.specs.Terms.{is_ambivalent_symbol}
 use Rattle.model_lists.specs.Lists.{RowLists, HasLeaves, IsRowList}
 use Rattle.model_lists.specs.Inside.{leaf_for}

@@ -10,11 +10,11 @@ use Rattle.content_models.specs.States as alls
 use Rattle.content_models.specs.declared.state.AllState.{AllState}
 use Rattle.content_models.specs.Modelled.{AllModel, letter_of}
 use Rattle.content_models.specs.declared.automaton.ContentAutomaton.TheVariants.{States, All}
-use Rattle.all_summary.specs.declared.map.AllMap.{AllMap}
-use Rattle.all_summary.specs.Masks.{of_letter, acts}
-use Rattle.all_summary.proofs.Running.{letters_are}
-use Rattle.model_rows.specs.Maps.{width_of, leaf_of}
-use Rattle.model_rows.proofs.Running.{rows_are, run-within}
+use Rattle.model_summaries.specs.declared.map.AllMap.{AllMap}
+use Rattle.model_summaries.specs.Masks.{of_letter, acts}
+use Rattle.model_summaries.proofs.MaskRunning.{letters_are}
+use Rattle.model_summaries.specs.Maps.{width_of, leaf_of}
+use Rattle.model_summaries.proofs.Running.{rows_are, run-within}
 use Rattle.model_terms.specs.Terms.{begins, stuck_in}
 use Rattle.model_terms.proofs.Stuck.{stuck-is, one-stuck}
 use Rattle.model_lists.specs.Lists.{member_of}

@@ -4,9 +4,9 @@ use Rattle.child_trees.specs.Lists.{Lists, Entry, get}
 use Rattle.content_models.specs.Modelled.{AllModel, letter_of}
 use Rattle.content_models.specs.declared.automaton.ContentAutomaton.{ContentAutomaton}
 use Rattle.content_models.specs.declared.automaton.ContentAutomaton.TheVariants.{States, All}
-use Rattle.all_summary.specs.declared.map.AllMap.{AllMap}
-use Rattle.all_summary.specs.Masks.{of_letter}
-use Rattle.model_rows.specs.Maps.{width_of, leaf_of}
+use Rattle.model_summaries.specs.declared.map.AllMap.{AllMap}
+use Rattle.model_summaries.specs.Masks.{of_letter}
+use Rattle.model_summaries.specs.Maps.{width_of, leaf_of}
 use Rattle.model_terms.specs.Terms.{is_ambivalent_symbol}
 use Rattle.model_lists.specs.declared.handle.ModelList.{ModelList}
 

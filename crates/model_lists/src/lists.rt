@@ -18,10 +18,9 @@ use crate::members::{
     build_member, insert_member, member_from, member_upto, set_member, stuck_member,
 };
 use crate::rows::{build_row, grow, insert_row, row_from, row_upto, set_row, stuck_row, term_row};
-use all_summary::AllSummary;
 use child_trees::Seqs;
 use content_models::ContentAutomaton;
-use model_rows::RowSummary;
+use model_summaries::{AllSummary, RowSummary};
 use model_terms::{first_term, is_ambivalent_symbol, member_term};
 use std::alloc::{AllocError, Global};
 use std::marker::Model;

@@ -2,8 +2,8 @@
 use Rattle.std.specs.Prelude.{◌≡◌, ◌≤◌, ℕ, List, [], Result, Ok, Err, IfOk, OnOk}
 use Rattle.std.proofs.Common.{arith, inl, inr, refl, sym, ap, ◌∙◌, subst}
 use Rattle.tree_rows.specs.Forest.{Document}
-use Rattle.tree_names.specs.Table.{document_table}
-use Rattle.tree_names.proofs.Tables.{grows}
+use Rattle.plain_tree.specs.Table.{document_table}
+use Rattle.plain_tree.proofs.Tables.{grows}
 use Rattle.assessment.specs.Attribution.{SchemaSet}
 use Rattle.kept_next.specs.Spaces.{HasSpacesNamed}
 use Rattle.kept_next.proofs.Spaces.{spaces-grown}
@@ -16,13 +16,13 @@ use Rattle.schema_compile.specs.declared.outcome.Outcome.{Outcome}
 use Rattle.schema_compile.specs.declared.outcome.Outcome.TheVariants.{Accepted}
 use Rattle.told.specs.Outcomes.{told_of}
 use Rattle.open_document.specs.Answers.{IsCompiled, IsOpenedBy, verdict_of, work_after}
-use Rattle.doc_inverses.specs.declared.change.Change.{Change}
+use Rattle.doc_tree.specs.declared.change.Change.{Change}
 use Rattle.std.proofs.lemmas.List.Elements.{All-nil}
-use Rattle.author_turns.specs.Logged.{AreNoLater}
-use Rattle.author_turns.specs.declared.turn.Turn.{Turn}
-use Rattle.undo_log.specs.Log.{Log, log_of}
-use Rattle.undo_log.specs.declared.log.Taken.TheVariants.{Nothing}
-use Rattle.undo_histories.specs.Through as histories
+use Rattle.edit_history.specs.Logged.{AreNoLater}
+use Rattle.edit_history.specs.declared.turn.Turn.{Turn}
+use Rattle.edit_history.specs.Log.{Log, log_of}
+use Rattle.edit_history.specs.declared.log.Taken.TheVariants.{Nothing}
+use Rattle.edit_history.specs.Through as histories
 use Rattle.open_document.specs.Held.{begun, state_of, IsLogged}
 use Rattle.open_document.specs.State.{Basis, WorkState, working, kept_trees, IsOpen}
 use Rattle.open_document.specs.declared.held.OpenDocument.{OpenDocument}

@@ -5,20 +5,20 @@ use Rattle.xs_names.specs.Names.{NameTable, Grown}
 use Rattle.tree_rows.specs.Forest.{Forest, Document}
 use Rattle.tree_edits.specs.Edits.{can_be_made}
 use Rattle.tree_edits.specs.declared.edit.Edit.{Edit}
-use Rattle.tree_names.specs.Table.{document_table}
-use Rattle.tree_names.proofs.Tables.{grows}
-use Rattle.tree_inverses.specs.Changes.{inverse_of}
-use Rattle.tree_inverses.specs.Changes as law
-use Rattle.tree_inverses.specs.Edits.{change_of}
-use Rattle.doc_inverses.specs.Changes.{Means}
-use Rattle.doc_inverses.specs.Leads.{document}
-use Rattle.doc_inverses.specs.declared.change.Change.{Change}
-use Rattle.undo_log.specs.History.{History, edited}
-use Rattle.undo_log.specs.Log.{Log, noted}
-use Rattle.undo_histories.specs.Meant.{meant_log}
-use Rattle.undo_histories.specs.Through.{history_through, Remembers, StepsTo, Gives}
-use Rattle.undo_histories.specs.Through as histories
-use Rattle.undo_histories.proofs.Remembering.{edit_remembered}
+use Rattle.plain_tree.specs.Table.{document_table}
+use Rattle.plain_tree.proofs.Tables.{grows}
+use Rattle.tree_edits.specs.Inverses.{inverse_of}
+use Rattle.tree_edits.specs.Inverses as law
+use Rattle.tree_edits.specs.EditChanges.{change_of}
+use Rattle.doc_tree.specs.Changes.{Means}
+use Rattle.doc_tree.specs.Leads.{document}
+use Rattle.doc_tree.specs.declared.change.Change.{Change}
+use Rattle.edit_history.specs.History.{History, edited}
+use Rattle.edit_history.specs.Log.{Log, noted}
+use Rattle.edit_history.specs.Meant.{meant_log}
+use Rattle.edit_history.specs.Through.{history_through, Remembers, StepsTo, Gives}
+use Rattle.edit_history.specs.Through as histories
+use Rattle.edit_history.proofs.Remembering.{edit_remembered}
 use Rattle.what_is_found.specs.IsFound.{IsFound}
 use Rattle.session_model.specs.Applying.{IsEdited, Applies}
 use Rattle.session_model.specs.Spending.{Counts}
@@ -35,9 +35,9 @@ use Rattle.open_document.specs.Stepping.{IsStepped, Makes}
 use Rattle.open_document.specs.Steps.{Step, step_by, with_turn, with_edit}
 use Rattle.open_document.specs.Touches.{touched}
 use Rattle.open_document.proofs.Noting.{noted_as, turns_behind, within_behind}
-use Rattle.author_turns.specs.Logged.{Logged}
-use Rattle.author_turns.specs.Turns.{turn}
-use Rattle.author_turns.specs.declared.touched.Touched.{Touched}
+use Rattle.edit_history.specs.Logged.{Logged}
+use Rattle.edit_history.specs.Turns.{turn}
+use Rattle.edit_history.specs.declared.touched.Touched.{Touched}
 use Rattle.open_document.specs.declared.held.OpenDocument.{OpenDocument}
 
 module _ (x : OpenDocument) (session : State) (log : Log Change) (turns : Logged) where

@@ -1,7 +1,7 @@
 -- A change of a session that is not closed is made, or memory is wanting for it.
 use Rattle.std.proofs.Common.{◌≡◌, ◌≤◌, ℕ, true, false, Err, sym, ◌∙◌}
 use Rattle.std.proofs.lemmas.Bool.{true≢false}
-use Rattle.tree_inverses.specs.Changes.{Change}
+use Rattle.tree_edits.specs.Inverses.{Change}
 use Rattle.session_model.specs.State.{State}
 use Rattle.session_model.specs.declared.session.SessionError.{SessionError}
 use Rattle.session_model.specs.declared.session.SessionError.TheVariants as errors

@@ -1,10 +1,10 @@
 -- A turn that is noted makes the next revision.
 use Rattle.std.proofs.Common.{◌≡◌, ◌≤◌, ◌^◌, ◌-◌, ℕ, List, [], ◌∷◌, ◌++◌, refl, sym, ap, ◌∙◌, subst, arith}
 use Rattle.std.proofs.lemmas.List.Elements.{All-push}
-use Rattle.author_turns.specs.Logged.{Logged, AreNoLater}
-use Rattle.author_turns.specs.Turns.{turn}
-use Rattle.author_turns.specs.declared.turn.Turn.{Turn}
-use Rattle.author_turns.specs.declared.touched.Touched.{Touched}
+use Rattle.edit_history.specs.Logged.{Logged, AreNoLater}
+use Rattle.edit_history.specs.Turns.{turn}
+use Rattle.edit_history.specs.declared.turn.Turn.{Turn}
+use Rattle.edit_history.specs.declared.touched.Touched.{Touched}
 use Rattle.session_model.specs.State.{State, next_revision}
 use Rattle.open_document.specs.Held.{state_of, IsLogged}
 use Rattle.open_document.specs.Steps.{with_turn}

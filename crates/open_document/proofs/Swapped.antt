@@ -3,8 +3,8 @@ use Rattle.std.proofs.Common.{◌≡◌, ◌≤◌, ◌<◌, ◌-◌, ◌^◌, �
 use Rattle.std.specs.Prelude.{OnOk, codes}
 use Rattle.std.proofs.lemmas.Bool.{and_parts, true≢false}
 use Rattle.std.proofs.lemmas.Bool.Decides.{nat_tests}
-use Rattle.tree_names.specs.Table.{document_table}
-use Rattle.tree_names.proofs.Tables.{grows}
+use Rattle.plain_tree.specs.Table.{document_table}
+use Rattle.plain_tree.proofs.Tables.{grows}
 use Rattle.assessment.specs.Assessment.{Entry}
 use Rattle.assessment.specs.Attribution.{SchemaSet}
 use Rattle.kept_next.specs.Spaces.{HasSpacesNamed}
@@ -25,12 +25,12 @@ use Rattle.told.specs.Told.{Told, says}
 use Rattle.told.specs.declared.break_off.BreakOff.{BreakOff}
 use Rattle.told.specs.declared.break_off.BreakOff.TheVariants.{Memory}
 use Rattle.told.proofs.Saying.{said_answers, free_answers, looked_answers, looks_breaks, asked_answers}
-use Rattle.undo_log.specs.History.{opened}
-use Rattle.undo_log.specs.Log.{Log, cleared}
-use Rattle.undo_histories.specs.Meant.{meant_log}
-use Rattle.undo_histories.specs.Through.{history_through}
-use Rattle.undo_histories.specs.Through as histories
-use Rattle.doc_inverses.specs.declared.change.Change.{Change}
+use Rattle.edit_history.specs.History.{opened}
+use Rattle.edit_history.specs.Log.{Log, cleared}
+use Rattle.edit_history.specs.Meant.{meant_log}
+use Rattle.edit_history.specs.Through.{history_through}
+use Rattle.edit_history.specs.Through as histories
+use Rattle.doc_tree.specs.declared.change.Change.{Change}
 use Rattle.open_document.specs.Held.{state_of, IsLogged}
 use Rattle.open_document.specs.Replies.{made_reply, no_section, is_section, swap_question, swap_said, swap_told, swapped_told}
 use Rattle.open_document.specs.State.{OpenState}

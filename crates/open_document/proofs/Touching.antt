@@ -3,7 +3,7 @@ use Rattle.std.proofs.Common.{◌≡◌, refl}
 use Rattle.tree_rows.specs.Forest.{Document, Forest}
 use Rattle.tree_edits.specs.declared.edit.Edit.{Edit}
 use Rattle.tree_edits.specs.declared.edit.Edit.TheVariants as edits
-use Rattle.tree_inverses.specs.Edits.{change_of}
+use Rattle.tree_edits.specs.EditChanges.{change_of}
 use Rattle.open_document.specs.Touches.{touched, touches}
 
 pub touched_so : (d : Document) (edit : Edit) (f : Forest) → touches (change_of d edit) f ≡ touched edit f

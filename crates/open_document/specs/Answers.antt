@@ -14,9 +14,9 @@ use Rattle.edit_session.specs.Costs as costs
 use Rattle.told.specs.Outcomes.{Question, SetOutcome, accepted, broken, IsOutcomeOf}
 use Rattle.told.specs.Told.{Told}
 use Rattle.open_document.specs.Replies.{line_told, made_reply, report_reply}
-use Rattle.undo_log.specs.History as histories
-use Rattle.undo_log.specs.Log.{log_of}
-use Rattle.undo_log.specs.declared.log.Taken.TheVariants.{Nothing}
+use Rattle.edit_history.specs.History as histories
+use Rattle.edit_history.specs.Log.{log_of}
+use Rattle.edit_history.specs.declared.log.Taken.TheVariants.{Nothing}
 use Rattle.open_document.specs.State.{Basis, OpenState, WorkState, ready, working, with_documents, kept_trees}
 use Rattle.open_document.specs.declared.verdict.SetVerdict.{SetVerdict}
 use Rattle.open_document.specs.declared.verdict.SetVerdict.TheVariants.{Accepted, Broken}

@@ -5,13 +5,13 @@ use Rattle.compiled_schema.specs.declared.compiled.Compiled.{Compiled}
 use Rattle.kept_next.specs.Spaces.{HasSpacesNamed}
 use Rattle.schema_set.specs.declared.inputs.SchemaInput.{SchemaInput}
 use Rattle.session_model.specs.State.{State}
-use Rattle.author_turns.specs.Logged.{AreNoLater}
-use Rattle.undo_log.specs.History.{opened}
-use Rattle.undo_log.specs.Log.{log_of}
-use Rattle.undo_log.specs.declared.log.Taken.TheVariants.{Nothing}
-use Rattle.undo_histories.specs.Meant.{meant_log}
-use Rattle.undo_histories.specs.Through.{history_through}
-use Rattle.undo_histories.specs.Through as histories
+use Rattle.edit_history.specs.Logged.{AreNoLater}
+use Rattle.edit_history.specs.History.{opened}
+use Rattle.edit_history.specs.Log.{log_of}
+use Rattle.edit_history.specs.declared.log.Taken.TheVariants.{Nothing}
+use Rattle.edit_history.specs.Meant.{meant_log}
+use Rattle.edit_history.specs.Through.{history_through}
+use Rattle.edit_history.specs.Through as histories
 use Rattle.open_document.specs.State.{Basis, OpenState, WorkState, empty, ready, working, with_documents, kept_trees}
 use Rattle.open_document.specs.declared.held.CompiledBasis.{CompiledBasis}
 use Rattle.open_document.specs.declared.held.Held.{Held}

@@ -19,7 +19,7 @@ use Rattle.assessment.specs.Attribution.{SchemaSet}
 use Rattle.session_model.specs.Asking.{entry_at, code_total}
 use Rattle.session_model.specs.Reports.{entry_text, report}
 use Rattle.session_model.specs.State.{State, with_names, after_edit}
-use Rattle.tree_inverses.specs.Changes.{Change}
+use Rattle.tree_edits.specs.Inverses.{Change}
 use Rattle.edit_session.specs.Changed.{after_change}
 use Rattle.edit_session.specs.Costs.{edit_cost, change_cost}
 use Rattle.edit_session.specs.Around as around

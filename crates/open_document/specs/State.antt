@@ -1,13 +1,13 @@
 -- What a stream works on.
 use Rattle.std.specs.Prelude.{◌≡◌, false, ℕ, List}
 use Rattle.tree_rows.specs.Forest.{Forest}
-use Rattle.tree_inverses.specs.Changes.{Change}
+use Rattle.tree_edits.specs.Inverses.{Change}
 use Rattle.assessment.specs.Attribution.{SchemaSet}
 use Rattle.schema_set.specs.declared.inputs.SchemaInput.{SchemaInput}
 use Rattle.session_model.specs.State.{State}
-use Rattle.undo_log.specs.History.{History}
-use Rattle.undo_log.specs.Log.{Log}
-use Rattle.author_turns.specs.declared.turn.Turn.{Turn}
+use Rattle.edit_history.specs.History.{History}
+use Rattle.edit_history.specs.Log.{Log}
+use Rattle.edit_history.specs.declared.turn.Turn.{Turn}
 
 -- what documents are assessed by: a schema set, and the schema documents of the stream, of which another set can be asked for
 pub record Basis : Type 0 where

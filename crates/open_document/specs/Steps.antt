@@ -3,18 +3,18 @@ use Rattle.std.specs.Prelude.{ℕ, ◌++◌, List, [], ◌∷◌, Option, Some, 
 use Rattle.circular_buffer.specs.Buffer.{last_item}
 use Rattle.tree_rows.specs.Forest.{Forest, Document}
 use Rattle.tree_edits.specs.declared.edit.Edit.{Edit}
-use Rattle.tree_inverses.specs.Changes.{Change, inverse_of}
-use Rattle.tree_inverses.specs.Edits.{change_of}
+use Rattle.tree_edits.specs.Inverses.{Change, inverse_of}
+use Rattle.tree_edits.specs.EditChanges.{change_of}
 use Rattle.assessment.specs.Assessment.{Entry}
 use Rattle.session_model.specs.State.{after_edit, next_revision}
 use Rattle.edit_session.specs.Changed.{after_change}
 use Rattle.edit_session.specs.Reopened.{after_swap}
 use Rattle.assessment.specs.Attribution.{SchemaSet}
-use Rattle.undo_log.specs.History.{History, opened, edited, undone, redone}
-use Rattle.undo_log.specs.Log.{Log, cleared, noted, with_undo_taken, with_undo_answered, with_redo_taken, with_redo_answered}
-use Rattle.author_turns.specs.Turns.{turn}
-use Rattle.author_turns.specs.declared.turn.Turn.{Turn}
-use Rattle.author_turns.specs.declared.touched.Touched.{Touched}
+use Rattle.edit_history.specs.History.{History, opened, edited, undone, redone}
+use Rattle.edit_history.specs.Log.{Log, cleared, noted, with_undo_taken, with_undo_answered, with_redo_taken, with_redo_answered}
+use Rattle.edit_history.specs.Turns.{turn}
+use Rattle.edit_history.specs.declared.turn.Turn.{Turn}
+use Rattle.edit_history.specs.declared.touched.Touched.{Touched}
 use Rattle.open_document.specs.State.{OpenState, kept_trees}
 use Rattle.open_document.specs.Touches.{touched, touches}
 

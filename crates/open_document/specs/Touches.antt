@@ -5,10 +5,10 @@ use Rattle.tree_rows.specs.Kinds.{kind_of}
 use Rattle.tree_rows.specs.declared.row.NodeKind.{NodeKind}
 use Rattle.tree_edits.specs.declared.edit.Edit.{Edit}
 use Rattle.tree_edits.specs.declared.edit.Edit.TheVariants as edits
-use Rattle.tree_inverses.specs.Changes.{Change, put_back, take_out, rename, write, reword}
+use Rattle.tree_edits.specs.Inverses.{Change, put_back, take_out, rename, write, reword}
 use Rattle.edit_session.specs.Parents.{parent_of}
-use Rattle.author_turns.specs.Turns.{stale}
-use Rattle.author_turns.specs.declared.touched.Touched.{Touched}
+use Rattle.edit_history.specs.Turns.{stale}
+use Rattle.edit_history.specs.declared.touched.Touched.{Touched}
 use Rattle.open_document.specs.State.{OpenState}
 use Rattle.open_document.specs.declared.touches.TurnFault.{TurnFault}
 use Rattle.open_document.specs.declared.touches.TurnFault.TheVariants.{BadRevision, Stale}

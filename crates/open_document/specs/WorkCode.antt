@@ -7,13 +7,13 @@ use Rattle.tree_rows.specs.Forest.{Forest, Document}
 use Rattle.tree_rows.specs.SiblingCode.{forest_code}
 use Rattle.tree_rows.specs.declared.name.Expanded.{Expanded}
 use Rattle.tree_rows.specs.contracts.name.Expanded as expanded
-use Rattle.tree_inverses.specs.Changes.{Change, put_back, take_out, rename, write, reword}
-use Rattle.undo_log.specs.History.{History}
-use Rattle.undo_log.specs.Log.{Log}
-use Rattle.undo_log.specs.declared.log.Taken.{Taken}
-use Rattle.undo_log.specs.contracts.log.Taken as taken
-use Rattle.author_turns.specs.declared.turn.Turn.{Turn}
-use Rattle.author_turns.specs.contracts.turn.Turn as turn_row
+use Rattle.tree_edits.specs.Inverses.{Change, put_back, take_out, rename, write, reword}
+use Rattle.edit_history.specs.History.{History}
+use Rattle.edit_history.specs.Log.{Log}
+use Rattle.edit_history.specs.declared.log.Taken.{Taken}
+use Rattle.edit_history.specs.contracts.log.Taken as taken
+use Rattle.edit_history.specs.declared.turn.Turn.{Turn}
+use Rattle.edit_history.specs.contracts.turn.Turn as turn_row
 use Rattle.assessment.specs.Attribution.{SchemaSet}
 use Rattle.schema_set.specs.declared.inputs.SchemaInput.{SchemaInput}
 use Rattle.session_model.specs.State.{State}

@@ -18,7 +18,7 @@ use compiled_schema::Compiled;
 use schema_compile::{Outcome, compile_from};
 use schema_set::SchemaInput;
 use std::alloc::{AllocError, Global};
-use wildcard_laws::wildcards_name_spaces_of_their_table;
+use told::wildcards_name_spaces_of_their_table;
 use xs_names::NsId;
 
 // The trees of schema documents are whole: a law.

@@ -7,12 +7,12 @@ ghost use Rattle.kept_next.specs.Spaces.{HasSpacesNamed};
 ghost use Rattle.open_document.specs.Answers as answers;
 ghost use Rattle.open_document.specs.Held.{basis_of, state_of, work_of, begun, IsKept, IsLogged, IsReadySet};
 ghost use Rattle.open_document.specs.State.{Basis, working, ready, with_documents, kept_trees, IsReady, IsOpen};
-ghost use Rattle.undo_log.specs.Log.{log_of};
-ghost use Rattle.undo_log.specs.declared.log.Taken.TheVariants.{Nothing};
+ghost use Rattle.edit_history.specs.Log.{log_of};
+ghost use Rattle.edit_history.specs.declared.log.Taken.TheVariants.{Nothing};
 
-use author_turns::TurnLog;
 use compiled_schema::Compiled;
-use doc_inverses::Change;
+use doc_tree::Change;
+use edit_history::{TurnLog, UndoLog};
 use edit_session::EditSession;
 use plain_session::let_go;
 use plain_tree::Tree;
@@ -20,7 +20,6 @@ use schema_set::SchemaInput;
 use session_model::Session;
 use std::alloc::{AllocError, Global};
 use std::mem;
-use undo_log::UndoLog;
 use xsv_steps::{Ledger, Steps};
 
 /// How many trees that were before the present one are kept.

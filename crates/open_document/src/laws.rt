@@ -3,7 +3,7 @@
 ghost use Rattle.std.specs.Prelude.{◌≡◌};
 ghost use Rattle.tree_rows.specs.Forest.{Document, Forest};
 ghost use Rattle.tree_edits.specs.declared.edit.Edit.{Edit};
-ghost use Rattle.tree_inverses.specs.Edits.{change_of};
+ghost use Rattle.tree_edits.specs.EditChanges.{change_of};
 ghost use Rattle.open_document.specs.Touches.{touched, touches};
 
 /// An edit touches what the change touches that it is, by which it is undone and redone.

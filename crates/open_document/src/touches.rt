@@ -1,14 +1,14 @@
 //! What edits and changes of a document touch, and turns that come too late.
 
 ghost use Rattle.std.specs.Prelude.{◌≡◌};
-ghost use Rattle.doc_inverses.specs.Changes.{Means};
+ghost use Rattle.doc_tree.specs.Changes.{Means};
 ghost use Rattle.open_document.specs.Held.{state_of};
 ghost use Rattle.open_document.specs.Touches as touches;
-ghost use Rattle.tree_inverses.specs.Changes as law;
+ghost use Rattle.tree_edits.specs.Inverses as law;
 
 use crate::held::OpenDocument;
-use author_turns::Touched;
-use doc_inverses::Change;
+use doc_tree::Change;
+use edit_history::Touched;
 use edit_session::EditSession;
 use session_model::Session;
 use tree_edits::Edit;

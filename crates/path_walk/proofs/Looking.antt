@@ -4,7 +4,7 @@ use Rattle.std.specs.List.{flat_map, filter}
 use Rattle.xs_names.specs.Names.{NameTable}
 use Rattle.xs_components.specs.Tables.{Tables}
 use Rattle.xpath_subset.specs.declared.path.Path.{Path}
-use Rattle.identity_paths.specs.declared.paths.IdentityPaths.{IdentityPaths}
+use Rattle.xpath_subset.specs.declared.paths.IdentityPaths.{IdentityPaths}
 use Rattle.identity_constraints.specs.Seen.{KeyElement, KeyForest, reached_below}
 use Rattle.identity_constraints.specs.Targets.{nodes_at, field_nodes, is_target, outcomes, outcome_at, has_constraint, paths_of, no_paths}
 use Rattle.path_walk.specs.declared.nodes.FieldNodes.{FieldNodes}

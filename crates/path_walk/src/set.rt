@@ -1,8 +1,8 @@
 //! What identity constraints are evaluated by.
 
 use component_tables::ContentTypes;
-use identity_paths::IdentityPaths;
 use std::alloc::Global;
+use xpath_subset::IdentityPaths;
 use xs_components::Components;
 use xs_names::Names;
 

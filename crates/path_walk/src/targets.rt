@@ -12,8 +12,8 @@ use crate::attributes::reaches;
 use crate::declared_by::constraints_of;
 use crate::tuples::{TargetOutcome, outcome_at};
 use crate::{KeySet, KeySiblings, KeySight};
-use identity_paths::IdentityPaths;
 use std::alloc::AllocError;
+use xpath_subset::IdentityPaths;
 use xs_components::ConstraintId;
 use xs_names::NameId;
 

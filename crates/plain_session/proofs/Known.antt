@@ -6,14 +6,14 @@ use Rattle.tree_rows.specs.Forest.{Forest, Document}
 use Rattle.tree_rows.specs.Whole.{IsTree}
 use Rattle.tree_edits.specs.Tests.{edited}
 use Rattle.tree_edits.specs.declared.edit.Edit.{Edit}
-use Rattle.tree_names.specs.Table.{document_table}
+use Rattle.plain_tree.specs.Table.{document_table}
 use Rattle.assessment.specs.Assessment.{Entry, entries}
 use Rattle.assessment.specs.Attribution.{SchemaSet}
 use Rattle.compiled_schema.specs.Usable.{set_of}
 use Rattle.compiled_schema.specs.declared.compiled.Compiled.{Compiled}
 use Rattle.tree_assess.specs.Entries.{entry_of}
 use Rattle.tree_assess.specs.declared.entry.ElementEntry.{ElementEntry}
-use Rattle.entry_keys.specs.Entries.{AreEntries}
+use Rattle.forest_keys.specs.Entries.{AreEntries}
 use Rattle.what_is_found.specs.IsFound.{IsFound, times_found}
 use Rattle.session_model.specs.Asking.{code_total}
 use Rattle.session_model.specs.Reports.{IsEntryNamed}

@@ -1,18 +1,17 @@
 //! What is known of a tree.
 
 ghost use Rattle.std.specs.Prelude.{◌≡◌, IfOk, OnOk};
-ghost use Rattle.tree_names.specs.Found.{HasNames};
+ghost use Rattle.plain_tree.specs.Found.{HasNames};
 ghost use Rattle.session_model.specs.State.{with_names};
 ghost use Rattle.compiled_schema.specs.Usable.{IsUsable, set_of};
 ghost use Rattle.plain_session.specs.Stocks.{IsReady, IsStock};
 
 use compiled_schema::{Compiled, usable_with_more_names};
-use entry_keys::assess;
-use plain_tree::Tree;
+use forest_keys::assess;
+use plain_tree::{Tree, add_names, document_names_are_found};
 use session_model::{count_codes, entries_are_named};
 use std::alloc::{AllocError, Global};
 use tree_assess::ElementEntry;
-use tree_names::{add_names, document_names_are_found};
 use xs_names::NsId;
 
 /// What is known of a tree.

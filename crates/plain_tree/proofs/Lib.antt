@@ -3,3 +3,9 @@ pub mod Sound
 pub mod KindLaws
 pub mod Adding
 pub mod Keeping
+pub mod Numbers
+pub mod Tables
+pub mod RowLaws
+pub mod Staying
+pub mod EditTables
+pub mod Edited

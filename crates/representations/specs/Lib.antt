@@ -5,3 +5,8 @@ pub mod Names
 pub mod Members
 pub mod Named
 pub mod Behind
+pub mod Lasting
+pub mod Methods
+pub mod Types
+pub mod Wildcards
+pub mod ElementForms

@@ -17,8 +17,8 @@ use Rattle.representations.specs.declared.naming.Naming.{Naming}
 use Rattle.representations.specs.declared.parts.Represented.{Represented}
 use Rattle.representations.specs.declared.parts.Represented.TheVariants as forms
 use Rattle.representations.specs.Members.{is_type}
-use Rattle.representation_forms.specs.declared.defaults.Defaults.{Defaults}
-use Rattle.representation_forms.specs.Forms.{represented}
+use Rattle.representations.specs.declared.defaults.Defaults.{Defaults}
+use Rattle.representations.specs.ElementForms.{represented}
 use Rattle.schema_check.specs.Shaped.{is_complex_type, is_variety, is_derivation, may_hold_complex}
 use Rattle.schema_check.proofs.TagLaws.{is_complex_tag, holds_complex}
 

@@ -16,8 +16,8 @@ use Rattle.representations.specs.declared.naming.Naming.{Naming}
 use Rattle.representations.specs.declared.parts.Represented.{Represented}
 use Rattle.representations.specs.declared.parts.Representation.{Representation}
 use Rattle.representations.specs.Members.{is_type, is_type_in, is_type_at}
-use Rattle.representation_forms.specs.declared.defaults.Defaults.{Defaults}
-use Rattle.representation_forms.specs.Forms.{represented}
+use Rattle.representations.specs.declared.defaults.Defaults.{Defaults}
+use Rattle.representations.specs.ElementForms.{represented}
 use Rattle.set_representations.specs.Members.{place_from}
 use Rattle.build_types.specs.SimpleTypes.{first_member}
 use Rattle.schema_check.specs.Shaped.{is_complex_type, is_kind_in, is_kind_at}

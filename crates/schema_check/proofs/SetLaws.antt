@@ -17,9 +17,9 @@ use Rattle.schema_set.specs.declared.documents.SetDocument.{SetDocument}
 use Rattle.representations.specs.declared.naming.Naming.{Naming}
 use Rattle.representations.specs.Naming.{naming_of}
 use Rattle.representations.specs.declared.parts.Representation.{Representation}
-use Rattle.representation_forms.specs.declared.defaults.Defaults.{Defaults}
-use Rattle.representation_forms.specs.Forms.{represented}
-use Rattle.representation_forms.specs.Methods.{defaults_of}
+use Rattle.representations.specs.declared.defaults.Defaults.{Defaults}
+use Rattle.representations.specs.ElementForms.{represented}
+use Rattle.representations.specs.Methods.{defaults_of}
 use Rattle.set_representations.specs.Documents.{representation, representations_from, document_representations, representations_of, representations, shapes_of}
 use Rattle.set_representations.specs.Members.{places_of}
 use Rattle.set_representations.specs.Scopes.{openings}

@@ -27,8 +27,8 @@ use Rattle.representations.specs.declared.parts.Represented.{Represented}
 use Rattle.representations.specs.declared.parts.Represented.TheVariants as forms
 use Rattle.representations.specs.declared.parts.Representation.{Representation}
 use Rattle.representations.specs.Members.{is_type_at}
-use Rattle.representation_forms.specs.declared.defaults.Defaults.{Defaults}
-use Rattle.representation_forms.specs.Types.{type_name_if}
+use Rattle.representations.specs.declared.defaults.Defaults.{Defaults}
+use Rattle.representations.specs.Types.{type_name_if}
 use Rattle.set_representations.specs.Members.{place_from, places_of}
 use Rattle.build_types.specs.SimpleTypes.{first_member}
 use Rattle.schema_check.specs.Shaped.{IsShaped, is_simple_type, is_complex_type, is_variety, is_content, is_derivation, names_no_type, may_hold_complex, is_kind_in, is_kind_at}

@@ -11,8 +11,8 @@ use Rattle.type_derivation.specs.Filled.{IsAfter}
 use Rattle.type_derivation.specs.Particles.{AreContentsSet}
 use Rattle.simple_types.specs.declared.types.SimpleTypes.{SimpleTypes}
 use Rattle.simple_types.specs.SimpleTypes.{IsBuilt}
-use Rattle.type_laws.specs.Completed.{AreCompleted}
-use Rattle.type_laws.proofs.BrokenLaws.{built-first}
+use Rattle.schema_check.specs.Completed.{AreCompleted}
+use Rattle.schema_check.proofs.BrokenLaws.{built-first}
 use Rattle.schema_check.specs.inside.Typed.{IsTyped}
 
 module _ (old new : Tables) (same : AreCompleted old new) where

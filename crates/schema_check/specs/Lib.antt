@@ -1,3 +1,4 @@
+pub mod Completed
 pub mod Components
 pub mod Resolved
 pub mod Shaped
@@ -8,3 +9,5 @@ pub mod Phases
 pub mod SetPhases
 pub mod Compilation
 pub mod inside
+pub mod SelfReferences
+pub mod Same

@@ -9,7 +9,7 @@ use Rattle.type_derivation.specs.Cycles.{IsBroken}
 use Rattle.type_derivation.specs.Particles.{AreContentsSet}
 use Rattle.simple_types.specs.declared.types.SimpleTypes.{SimpleTypes}
 use Rattle.simple_types.specs.SimpleTypes.{AreTypesOf, AreWhole}
-use Rattle.type_laws.specs.Completed.{AreCompleted, IsFirstTypeFault}
+use Rattle.schema_check.specs.Completed.{AreCompleted, IsFirstTypeFault}
 use Rattle.redefine_names.specs.declared.groups.RedefinedGroups.{RedefinedGroups}
 use Rattle.schema_set.specs.declared.documents.SetDocument.{SetDocument}
 use Rattle.set_representations.specs.Documents.{set_table}

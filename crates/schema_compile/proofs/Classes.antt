@@ -4,7 +4,7 @@ use Rattle.std.proofs.lemmas.Bool.{cases_lt}
 use Rattle.std.proofs.lemmas.List.{same_lists}
 use Rattle.std.proofs.lemmas.Option.{slice_get-get_or}
 use Rattle.xs_components.specs.Tables.{Tables}
-use Rattle.element_classes.specs.Classes.{IsClassOf, AreClassesOf}
+use Rattle.element_declarations.specs.Classes.{IsClassOf, AreClassesOf}
 
 module _ (t : Tables) where
   -- another class is no later one

@@ -15,9 +15,9 @@ use Rattle.representations.specs.Naming.{declared_number, declared_space, naming
 use Rattle.representations.specs.declared.parts.Representation.{Representation}
 use Rattle.representations.specs.declared.parts.Represented.{Represented}
 use Rattle.representations.specs.declared.parts.Represented.TheVariants as parts
-use Rattle.representation_forms.specs.declared.defaults.Defaults.{Defaults}
-use Rattle.representation_forms.specs.Methods.{defaults_of}
-use Rattle.representation_forms.specs.Forms.{represented}
+use Rattle.representations.specs.declared.defaults.Defaults.{Defaults}
+use Rattle.representations.specs.Methods.{defaults_of}
+use Rattle.representations.specs.ElementForms.{represented}
 use Rattle.set_representations.specs.Documents.{representation, representations_from, shapes_of, document_representations, representations_of}
 use Rattle.set_representations.specs.Scopes.{openings}
 use Rattle.schema_compile.proofs.TableLaws.{count, name-below}

@@ -9,7 +9,7 @@ use Rattle.xs_names.specs.Names.{NameTable}
 use Rattle.xs_components.specs.Tables.{Tables}
 use Rattle.xs_components.specs.declared.element.ElementDecl.{ElementDecl}
 use Rattle.xs_components.specs.Heads.{names_of}
-use Rattle.subst_groups.specs.Groups.{HasHead, named, through, IsGroup, AreGroups, head_of, part_name, name_of}
+use Rattle.element_declarations.specs.Groups.{HasHead, named, through, IsGroup, AreGroups, head_of, part_name, name_of}
 use Rattle.compiled_schema.specs.Usable.{AreNamed}
 use Rattle.schema_compile.proofs.ContentLaws.{slice-there}
 

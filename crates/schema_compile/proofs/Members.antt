@@ -7,7 +7,7 @@ use Rattle.std.proofs.lemmas.List.{same_lists, get_or_default}
 use Rattle.std.proofs.lemmas.Option.{unwrap_or-slice_get}
 use Rattle.xs_components.specs.Tables.{Tables}
 use Rattle.xs_components.specs.Heads.{names_of}
-use Rattle.subst_groups.specs.Groups.{by_place, place_of, name_of, IsGroup, AreGroups}
+use Rattle.element_declarations.specs.Groups.{by_place, place_of, name_of, IsGroup, AreGroups}
 use Rattle.schema_compile.proofs.Sorted.{never-both, same-list}
 
 module _ (t : Tables) where

@@ -9,8 +9,8 @@ use Rattle.derive_faults.specs.AttrFaults.{IsTypeAt, IsGroupAt, IsAttrFault}
 use Rattle.derive_restriction.specs.DerivationFaults.{IsDerivationFault}
 use Rattle.redefine_names.specs.declared.pairs.RedefinedPair.{RedefinedPair}
 use Rattle.schema_models.specs.SetModels.{IsBroken}
-use Rattle.derive_values.specs.ValueFaults.{IsValueFault}
-use Rattle.identity_faults.specs.Faults.{IsIdentityFault}
+use Rattle.derive_faults.specs.ValueFaults.{IsValueFault}
+use Rattle.xpath_subset.specs.Faults.{IsIdentityFault}
 use Rattle.schema_compile.specs.Outcomes.{IsPropertyFault}
 use Rattle.schema_compile.proofs.Refused.{group-refused, type-refused}
 

@@ -9,7 +9,7 @@ use Rattle.derive_faults.specs.AttrFaults.{IsAttrFault}
 use Rattle.derive_restriction.specs.DerivationFaults.{IsDerivationFault}
 use Rattle.derive_models.specs.ModelFaults.{IsFirstModelFault}
 use Rattle.schema_models.specs.SetModels.{IsBroken}
-use Rattle.identity_faults.specs.Faults.{IsIdentityFault}
+use Rattle.xpath_subset.specs.Faults.{IsIdentityFault}
 use Rattle.xs_codes.proofs.Firsts.{least-one}
 use Rattle.derive_models.proofs.LeastFaults.{one-first}
 use Rattle.schema_check.specs.Phases.{IsFirstOfPhases}

@@ -8,14 +8,14 @@ use Rattle.xs_names.proofs.GrownLaws.{Grown-refl}
 use Rattle.xs_components.specs.Tables.{Tables}
 use Rattle.derive_faults.specs.AttrFaults.{IsAttrFault}
 use Rattle.content_models.specs.declared.automaton.ContentAutomaton.{ContentAutomaton}
-use Rattle.model_checks.specs.Checks.{IsAmbiguousModel}
-use Rattle.model_checks.specs.declared.fault.ModelFault.TheVariants.{Ambiguous}
+use Rattle.schema_models.specs.Checks.{IsAmbiguousModel}
+use Rattle.schema_models.specs.declared.fault.ModelFault.TheVariants.{Ambiguous}
 use Rattle.schema_models.specs.SetModels as models
 use Rattle.schema_check.specs.declared.documents.CompiledSet.{CompiledSet}
 use Rattle.compiled_schema.specs.Usable.{HasModelOver, AreModels, IsUsable}
 use Rattle.compiled_schema.specs.declared.compiled.Compiled.{Compiled}
 use Rattle.schema_compile.specs.Fit.{IsFit}
-use Rattle.identity_paths.specs.Reads.{AreIdentities}
+use Rattle.xpath_subset.specs.Reads.{AreIdentities}
 use Rattle.schema_compile.specs.declared.finding.Found.{Found}
 use Rattle.schema_compile.specs.declared.finding.Faultless.{Faultless}
 use Rattle.schema_compile.specs.declared.outcome.Outcome.TheVariants.{Accepted}

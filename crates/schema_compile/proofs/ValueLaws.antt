@@ -10,9 +10,9 @@ use Rattle.xs_codes.proofs.LeastLaws.{least-sum}
 use Rattle.derive_faults.specs.AttrFaults.{IsAttrFault}
 use Rattle.elem_assess.specs.Texts.{is_simple_content}
 use Rattle.schema_check.specs.declared.documents.CompiledSet.{CompiledSet}
-use Rattle.derive_values.specs.Given.{AreGiven, AreRead}
+use Rattle.derive_faults.specs.Given.{AreGiven, AreRead}
 use Rattle.derive_restriction.specs.Given as restrictions
-use Rattle.derive_values.specs.ValueFaults.{IsValueFault}
+use Rattle.derive_faults.specs.ValueFaults.{IsValueFault}
 use Rattle.schema_compile.specs.Fit.{IsFit}
 use Rattle.schema_compile.specs.Outcomes.{IsPropertyFault}
 

@@ -3,13 +3,13 @@ use Rattle.std.specs.Prelude.{◌≡◌, ◌⊎◌, ℕ, ◌<◌, Bool, List, []
 use Rattle.xs_codes.specs.declared.fault.Fault.{Fault}
 use Rattle.xs_components.specs.Tables.{Tables}
 use Rattle.xs_codes.specs.Least.{IsLeast}
-use Rattle.subst_groups.specs.Groups.{AreGroups}
+use Rattle.element_declarations.specs.Groups.{AreGroups}
 use Rattle.derive_faults.specs.AttrFaults.{AreIdMarks, IsAttrFault, HasUses}
 use Rattle.derive_restriction.specs.DerivationFaults.{IsDerivationFault}
 use Rattle.derive_models.specs.ModelFaults.{IsFirstModelFault}
-use Rattle.derive_values.specs.ValueFaults.{IsValueFault}
-use Rattle.identity_faults.specs.Faults.{IsIdentityFault}
-use Rattle.element_classes.specs.Classes.{AreClassesOf}
+use Rattle.derive_faults.specs.ValueFaults.{IsValueFault}
+use Rattle.xpath_subset.specs.Faults.{IsIdentityFault}
+use Rattle.element_declarations.specs.Classes.{AreClassesOf}
 use Rattle.schema_models.specs.SetModels.{IsBroken}
 use Rattle.schema_check.specs.Compilation.{IsCompilation}
 use Rattle.schema_check.specs.Phases.{IsFirstOfPhases}

@@ -4,15 +4,14 @@ ghost use Rattle.std.specs.Prelude.{◌≡◌, IfOk, IfNone};
 ghost use Rattle.xs_codes.specs.Least.{IsLeast};
 ghost use Rattle.schema_models.specs.SetModels.{AreContentsLimited};
 ghost use Rattle.schema_check.specs.Phases.{IsFirstOfPhases};
-ghost use Rattle.derive_values.specs.ValueFaults.{IsValueFault};
+ghost use Rattle.derive_faults.specs.ValueFaults.{IsValueFault};
 ghost use Rattle.schema_compile.specs.Fit.{IsFit};
 ghost use Rattle.schema_compile.specs.Outcomes as phases;
 ghost use Rattle.schema_compile.specs.inside.Finding as spec;
 
 use crate::finding::Found;
-use derive_faults::first_attr_fault;
+use derive_faults::{first_attr_fault, first_value_fault};
 use derive_restriction::{DerivedSet, first_derivation_fault};
-use derive_values::first_value_fault;
 use schema_check::CompiledSet;
 use std::alloc::{AllocError, Global};
 use xs_codes::{Fault, sooner};

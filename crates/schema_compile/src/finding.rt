@@ -3,19 +3,18 @@
 ghost use Rattle.std.specs.Prelude.{◌≡◌, IfOk};
 ghost use Rattle.component_tables.specs.ContentTypes.{AreContentsOf};
 ghost use Rattle.component_tables.specs.Types.{AreDeclarationsOf};
-ghost use Rattle.element_classes.specs.Classes.{AreClassesOf};
+ghost use Rattle.element_declarations.specs.Classes.{AreClassesOf};
 ghost use Rattle.schema_compile.specs.Fit.{IsFit};
 ghost use Rattle.schema_compile.specs.inside.Finding as spec;
 
 use attr_uses::AttrTables;
 use component_tables::{ComponentNames, ContentTypes, Declarations};
 use derive_faults::id_marks;
-use element_classes::classes_of;
-use identity_paths::IdentityPaths;
+use element_declarations::{classes_of, groups};
 use schema_check::CompiledSet;
 use schema_models::Models;
 use std::alloc::{AllocError, Global};
-use subst_groups::groups;
+use xpath_subset::IdentityPaths;
 use xs_components::Members;
 
 /// What is found of the components of a set.

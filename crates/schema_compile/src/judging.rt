@@ -12,11 +12,11 @@ use crate::faults::first_fault;
 use crate::finding::{Faultless, Found, contents_are_there, find};
 use content_models::ModelSource;
 use derive_models::{ModelSet, first_model_fault};
-use identity_faults::read_identities;
 use particle_forms::Inhabited;
 use schema_check::CompiledSet;
 use schema_models::{Models, build_models};
 use std::alloc::{AllocError, Global};
+use xpath_subset::read_identities;
 use xs_codes::Fault;
 
 // The automata of content models, or the first fault of phase 8.

@@ -22,8 +22,8 @@ use Rattle.content_models.specs.Built.{IsStateTotal, IsBuilt, HasRoom, IsRefused
 use Rattle.content_models.specs.declared.automaton.ContentAutomaton.{ContentAutomaton}
 use Rattle.content_models.specs.declared.refused.ModelError.{ModelError}
 use Rattle.content_models.specs.declared.refused.ModelError.TheVariants as errors
-use Rattle.model_checks.specs.declared.fault.ModelFault.{ModelFault}
-use Rattle.model_checks.specs.declared.fault.ModelFault.TheVariants.{TooManyPositions, TooManyStates, TableTooLarge, Inconsistent, Ambiguous}
+use Rattle.schema_models.specs.declared.fault.ModelFault.{ModelFault}
+use Rattle.schema_models.specs.declared.fault.ModelFault.TheVariants.{TooManyPositions, TooManyStates, TableTooLarge, Inconsistent, Ambiguous}
 use Rattle.schema_models.specs.SetModels.{place_of, by_place, content_of, type_fault, code_of, most_cells, IsCellCount, IsPastCells, IsBrokenOf, IsBrokenAt}
 use Rattle.schema_models.specs.declared.filling.Progress.{Progress}
 use Rattle.schema_models.specs.inside.Steps.{IsInOrder, is_elsewhere, model_at, AreNone, taken, IsKindOf, IsLimit, IsNotBefore, IsMade, AreMade, IsOverLimitAt, IsWithout, IsSoFar, IsFilled, IsNext, IsVisit}

@@ -13,9 +13,9 @@ use Rattle.xs_names.specs.Names.{NameTable}
 use Rattle.xs_components.specs.Tables.{Tables}
 use Rattle.content_models.specs.Built.{IsBuilt}
 use Rattle.content_models.specs.declared.automaton.ContentAutomaton.{ContentAutomaton}
-use Rattle.model_checks.specs.Checks.{IsJudged}
-use Rattle.model_checks.specs.declared.fault.ModelFault.{ModelFault}
-use Rattle.model_checks.specs.declared.fault.ModelFault.TheVariants.{TooManyPositions, TooManyStates, TableTooLarge, Inconsistent, Ambiguous}
+use Rattle.schema_models.specs.Checks.{IsJudged}
+use Rattle.schema_models.specs.declared.fault.ModelFault.{ModelFault}
+use Rattle.schema_models.specs.declared.fault.ModelFault.TheVariants.{TooManyPositions, TooManyStates, TableTooLarge, Inconsistent, Ambiguous}
 use Rattle.schema_models.specs.SetModels.{content_of, type_fault, code_of, IsBroken, IsBrokenOf, IsModel}
 use Rattle.schema_models.specs.inside.Steps.{model_at, IsNotBefore, IsLimit, AreMade, IsOverLimitAt, IsMisjudgedOf, IsMisjudgedAt, IsMisjudgedIn, IsMisjudgedBelow, IsMisjudged, IsFilled, AreModelsIfNone}
 use Rattle.schema_models.proofs.PlaceLaws.{not-before-left, not-before-right, some-of, least-of, one-type}

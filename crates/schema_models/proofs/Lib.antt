@@ -1,3 +1,9 @@
+pub mod FoundLaws
+pub mod AgreeLaws
+pub mod CheckLaws
+pub mod Accepting
+pub mod Giving
+pub mod Growing
 pub mod OrderLaws
 pub mod UniqueLaws
 pub mod PlaceLaws

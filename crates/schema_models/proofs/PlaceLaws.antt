@@ -14,8 +14,8 @@ use Rattle.xs_codes.specs.Codes.{order_of}
 use Rattle.xs_codes.specs.Least.{place_in, is_before, sooner, IsLeast}
 use Rattle.xs_codes.proofs.LeastLaws.{fault_not_past, fault_not_trans}
 use Rattle.xs_components.specs.Tables.{Tables}
-use Rattle.model_checks.specs.declared.fault.ModelFault.{ModelFault}
-use Rattle.model_checks.specs.declared.fault.ModelFault.TheVariants.{TooManyPositions, TooManyStates, TableTooLarge, Inconsistent, Ambiguous}
+use Rattle.schema_models.specs.declared.fault.ModelFault.{ModelFault}
+use Rattle.schema_models.specs.declared.fault.ModelFault.TheVariants.{TooManyPositions, TooManyStates, TableTooLarge, Inconsistent, Ambiguous}
 use Rattle.schema_models.specs.SetModels.{place_of, by_place, type_fault, code_of}
 use Rattle.schema_models.specs.inside.Steps.{IsNotBefore, IsLimit, is_elsewhere}
 

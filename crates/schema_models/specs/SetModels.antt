@@ -17,10 +17,10 @@ use Rattle.content_automaton.specs.Symbols.{SymbolTable, AreSymbolsOf, count_of}
 use Rattle.content_models.specs.Terms.{model_terms}
 use Rattle.content_models.specs.Built.{IsStateTotal, HasTooManyPositions, HasTooManyStates, IsBuilt, IsLimited}
 use Rattle.content_models.specs.declared.automaton.ContentAutomaton.{ContentAutomaton}
-use Rattle.model_checks.specs.Consistency.{IsConsistent}
-use Rattle.model_checks.specs.Checks.{IsAmbiguousModel}
-use Rattle.model_checks.specs.declared.fault.ModelFault.{ModelFault}
-use Rattle.model_checks.specs.declared.fault.ModelFault.TheVariants.{TooManyPositions, TooManyStates, TableTooLarge, Inconsistent, Ambiguous}
+use Rattle.schema_models.specs.Consistency.{IsConsistent}
+use Rattle.schema_models.specs.Checks.{IsAmbiguousModel}
+use Rattle.schema_models.specs.declared.fault.ModelFault.{ModelFault}
+use Rattle.schema_models.specs.declared.fault.ModelFault.TheVariants.{TooManyPositions, TooManyStates, TableTooLarge, Inconsistent, Ambiguous}
 
 -- the cells of all tables of a schema set are at most so many
 abbrev pub most_cells : ℕ

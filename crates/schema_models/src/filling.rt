@@ -7,11 +7,11 @@ ghost use Rattle.xs_codes.specs.Least.{IsLeast};
 ghost use Rattle.schema_models.specs.SetModels.{AreContentsLimited};
 ghost use Rattle.schema_models.specs.inside.Steps.{AreNone, IsFilled, IsNext, IsVisit, IsKindOf};
 
+use crate::ModelFault;
 use crate::models::Models;
 use crate::order::in_order;
 use crate::places::{is_elsewhere, type_fault};
 use content_models::{ContentAutomaton, ModelError, ModelSource};
-use model_checks::ModelFault;
 use std::alloc::{AllocError, Global};
 use xs_codes::{Fault, sooner};
 use xs_components::{ComplexId, ParticleId};

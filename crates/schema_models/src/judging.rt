@@ -6,10 +6,10 @@ ghost use Rattle.xs_codes.specs.Least.{IsLeast};
 ghost use Rattle.schema_models.specs.SetModels.{content_of, AreContentsLimited};
 ghost use Rattle.schema_models.specs.inside.Steps.{AreMade, IsMisjudged, IsMisjudgedIn, IsMisjudgedAt};
 
+use crate::judge;
 use crate::models::Models;
 use crate::places::type_fault;
 use content_models::{ContentAutomaton, ModelSource};
-use model_checks::judge;
 use std::alloc::{AllocError, Global};
 use xs_codes::{Fault, sooner};
 use xs_components::{ComplexId, ParticleId};

@@ -4,7 +4,7 @@ ghost use Rattle.std.specs.Prelude.{◌≡◌, ◌<◌, length};
 ghost use Rattle.schema_models.specs.SetModels.{type_fault, code_of, place_of};
 ghost use Rattle.schema_models.specs.inside.Steps.{is_elsewhere};
 
-use model_checks::ModelFault;
+use crate::ModelFault;
 use xs_codes::{Code, Fault};
 use xs_components::{ComplexId, Components, Place};
 

@@ -2,7 +2,7 @@
 use Rattle.std.proofs.Common.{◌≡◌, ℕ, List, [], ◌∷◌, ◌++◌, Bool, true, false, refl, sym, subst, ◌∙◌}
 use Rattle.xs_names.specs.Names.{NameTable}
 use Rattle.xs_components.specs.Tables.{Tables}
-use Rattle.identity_paths.specs.declared.paths.IdentityPaths.{IdentityPaths}
+use Rattle.xpath_subset.specs.declared.paths.IdentityPaths.{IdentityPaths}
 use Rattle.identity_constraints.specs.Seen.{KeyElement, KeyForest}
 use Rattle.identity_constraints.specs.Targets.{constraints_of, is_target, paths_of}
 use Rattle.path_walk.specs.inside.Walk.{reached}
@@ -65,5 +65,5 @@ module _ (names : NameTable) (t : Tables) (identities : List IdentityPaths) (old
       → targetings_of names t identities above (old.seen n) below ≡ [] → targetings_of names t identities new_above (new.seen n) new_below ≡ []
   bare-stays n is below new_below above new_above around bare =
       let scopes = same-above t old new free steady leaves (old.parent n) above new_above (λ p e. leaves.steady_above n p is e) around.above_are
-          (subst (λ q. AreAbove new q new_above) (leaves.steady_parent n is) around.new_above_are) in
+      (subst (λ q. AreAbove new q new_above) (leaves.steady_parent n is) around.new_above_are) in
       up-none names t identities (old.seen n) (new.seen n) below new_below [] (old.seen n ∷ above) (new.seen n ∷ new_above) (leaves.same n is, scopes) bare

@@ -4,7 +4,7 @@ use Rattle.std.specs.Prelude.{slice_get, unwrap_or}
 use Rattle.xs_names.specs.Names.{NameTable}
 use Rattle.xs_components.specs.Tables.{Tables}
 use Rattle.xpath_subset.specs.Reached as paths
-use Rattle.identity_paths.specs.declared.paths.IdentityPaths.{IdentityPaths}
+use Rattle.xpath_subset.specs.declared.paths.IdentityPaths.{IdentityPaths}
 use Rattle.identity_constraints.specs.Seen.{KeyElement, KeyForest, Reached}
 use Rattle.identity_constraints.specs.Targets.{Outcome, expanded, field_nodes, is_target, no_paths, outcome_at, paths_of}
 use Rattle.path_walk.specs.Outcomes.{outcome_in}

@@ -15,11 +15,11 @@ use Rattle.xs_components.specs.declared.constraint.ConstraintKind.TheVariants.{U
 use Rattle.xpath_subset.specs.Reaches.{expanded_name}
 use Rattle.xpath_subset.specs.Reached as paths
 use Rattle.xpath_subset.specs.declared.path.Path.{Path}
-use Rattle.identity_paths.specs.declared.paths.IdentityPaths.{IdentityPaths}
+use Rattle.xpath_subset.specs.declared.paths.IdentityPaths.{IdentityPaths}
 use Rattle.identity_constraints.specs.Seen.{KeyAttribute, KeyElement, KeyForest, none, element, Reached, from_above, reached_below, reached_from}
 use Rattle.identity_constraints.specs.Targets.{Outcome, attribute_at, attribute_node, constraints_of, element_node, expanded, field_nodes, is_target, nodes_at, outcome_at, outcome_by, outcomes, paths_of}
 use Rattle.identity_constraints.specs.Satisfied.{bearing, checks_by, codes_by, first_broken, has_lacking, has_misused, has_nillable, identity_codes, is_held, is_no_key, is_not_unique, is_visible, tuples_in}
-use Rattle.identity_counts.specs.Counting.{weight}
+use Rattle.identity_constraints.specs.Counting.{weight}
 use Rattle.path_walk.specs.Sight.{AreNamed, IsNamed}
 use Rattle.path_walk.specs.inside.Walk.{reached}
 use Rattle.scope_targets.specs.Found.{AreNamesOf}

@@ -4,3 +4,9 @@ pub mod Growing
 mod Finding
 mod Upwards
 pub mod Bare
+pub mod Links
+pub mod Sums
+mod Tallies
+mod Keeping
+mod Parents
+pub mod Linked

@@ -5,9 +5,9 @@ use Rattle.std.proofs.lemmas.Bool.{eqb-true, eq-eqb}
 use Rattle.std.proofs.lemmas.Grind.{flat_map-append}
 use Rattle.xs_names.specs.Names.{NameTable}
 use Rattle.xs_components.specs.Tables.{Tables}
-use Rattle.identity_paths.specs.declared.paths.IdentityPaths.{IdentityPaths}
-use Rattle.identity_counts.specs.Counting.{weight}
-use Rattle.identity_counts.proofs.Bearers.{same_or_other}
+use Rattle.xpath_subset.specs.declared.paths.IdentityPaths.{IdentityPaths}
+use Rattle.identity_constraints.specs.Counting.{weight}
+use Rattle.identity_constraints.proofs.Bearers.{same_or_other}
 use Rattle.identity_constraints.specs.Seen.{KeyElement, KeyForest, none, element, Reached, from_above, reached_below, reached_from}
 use Rattle.identity_constraints.specs.Targets.{Outcome, constraints_of, has_constraint, is_target, outcome_at, outcomes, paths_of}
 use Rattle.path_walk.specs.inside.Walk.{reached}

@@ -5,7 +5,7 @@ use Rattle.std.specs.Prelude.{All, insert}
 use Rattle.std.proofs.lemmas.List.Elements.{All-cons, All-head, All-tail}
 use Rattle.xs_names.specs.Names.{NameTable}
 use Rattle.xs_components.specs.Tables.{Tables}
-use Rattle.identity_paths.specs.declared.paths.IdentityPaths.{IdentityPaths}
+use Rattle.xpath_subset.specs.declared.paths.IdentityPaths.{IdentityPaths}
 use Rattle.identity_constraints.specs.Seen.{KeyElement, KeyForest}
 use Rattle.identity_constraints.specs.Targets.{constraints_of}
 use Rattle.path_walk.specs.Sight.{seen}

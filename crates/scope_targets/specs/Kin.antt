@@ -1,7 +1,7 @@
 -- Elements by their numbers, as identity constraints see them, and which of them are targets as they were (Structures 3.11.4).
 use Rattle.std.specs.Prelude.{◌≡◌, ℕ, List, [], ◌∷◌, Option, None, Some}
 use Rattle.xs_components.specs.Tables.{Tables}
-use Rattle.identity_counts.specs.Counting.{Has}
+use Rattle.identity_constraints.specs.Counting.{Has}
 use Rattle.identity_constraints.specs.Seen.{KeyElement, KeyForest, none, element}
 use Rattle.identity_constraints.specs.Targets.{constraints_of}
 

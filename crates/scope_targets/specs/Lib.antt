@@ -1,3 +1,6 @@
 pub mod Targetings
 pub mod Kin
 pub mod Found
+pub mod Counted
+pub mod Linked
+pub mod Kept

@@ -3,7 +3,7 @@
 ghost use Rattle.std.specs.Prelude.{◌≡◌, ◌≤◌, ℕ, Bool, true, false, List, []};
 ghost use Rattle.xs_names.specs.Names.{Grown, NameTable};
 ghost use Rattle.xs_components.specs.Tables.{Tables};
-ghost use Rattle.identity_paths.specs.declared.paths.IdentityPaths.{IdentityPaths};
+ghost use Rattle.xpath_subset.specs.declared.paths.IdentityPaths.{IdentityPaths};
 ghost use Rattle.identity_constraints.specs.Seen.{KeyElement, KeyForest};
 ghost use Rattle.identity_constraints.specs.Targets.{outcomes};
 ghost use Rattle.identity_constraints.specs.Satisfied.{identity_codes};

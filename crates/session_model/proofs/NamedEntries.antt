@@ -9,7 +9,6 @@ use Rattle.component_references.specs.Heights.{IsType}
 use Rattle.tree_rows.specs.Forest.{Forest, none, text, element}
 use Rattle.tree_rows.specs.declared.name.Expanded.{Expanded}
 use Rattle.tree_rows.specs.declared.row.Attribute.{Attribute}
-use Rattle.tree_rows.specs.declared.row.Attribute.{Attribute}
 use Rattle.xs_names.specs.Names.{NameTable, name_number}
 use Rattle.xs_names.specs.Scope.{first_scope}
 use Rattle.elem_governing.specs.declared.pairs.Governing.{Governing}
@@ -24,7 +23,7 @@ use Rattle.assessment_laws.proofs.There.{attrs-there}
 use Rattle.report_text.specs.Named.{IsName, IsTypeNamed, IsNamed, AreNamed}
 use Rattle.compiled_schema.specs.Usable.{IsUsable, set_of}
 use Rattle.compiled_schema.specs.declared.compiled.Compiled.{Compiled}
-use Rattle.tree_names.specs.Found.{HasName, HasAttributes, HasNames}
+use Rattle.plain_tree.specs.Found.{HasName, HasAttributes, HasNames}
 use Rattle.assess_records.specs.Numbered.{Scope, Head, head_of, heads, scope_in, space_in, name_in, named_text, named_texts}
 use Rattle.assessment.specs.Assessment.{Entry, Assessed, Beside, entries, first_pair, other_pairs, governed, root_pairs, IsEntry, AreAssessed, IsAssessment}
 use Rattle.session_model.specs.Reports.{IsEntryNamed}

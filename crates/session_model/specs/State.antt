@@ -3,7 +3,7 @@ use Rattle.std.specs.Prelude.{◌≡◌, ℕ, ◌+◌, ◌-◌, ◌^◌, min, Li
 use Rattle.tree_rows.specs.Forest.{Forest, Document}
 use Rattle.assessment.specs.Attribution.{SchemaSet}
 use Rattle.assessment.specs.Assessment.{Entry}
-use Rattle.tree_names.specs.Table.{document_table}
+use Rattle.plain_tree.specs.Table.{document_table}
 use Rattle.what_is_found.specs.IsFound.{IsFound}
 
 -- The schema set, whose table of names has those of the document, the document, what is found out about its elements, in document order, how

@@ -4,7 +4,7 @@ ghost use Rattle.std.specs.Prelude.{All};
 ghost use Rattle.tree_rows.specs.Forest.{Forest};
 ghost use Rattle.assessment.specs.Assessment.{Assessed, Beside, IsAssessment, entries};
 ghost use Rattle.compiled_schema.specs.declared.compiled.Compiled.{Compiled as CompiledData};
-ghost use Rattle.tree_names.specs.Found.{HasNames};
+ghost use Rattle.plain_tree.specs.Found.{HasNames};
 ghost use Rattle.session_model.specs.Reports.{IsEntryNamed};
 ghost use Rattle.compiled_schema.specs.Usable.{IsUsable, set_of};
 

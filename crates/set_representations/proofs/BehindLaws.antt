@@ -1,8 +1,7 @@
 -- What stands in an element is behind it.
-use Rattle.std.proofs.Common.{◌≡◌, ℕ, zero, suc, ◌+◌, ◌<◌, ◌≤◌, ◌==◌, Bool, true, false, cond, List, [], ◌∷◌, ◌++◌, Option, Some, None, length, if◌then◌else◌, refl, sym, ap, subst, ◌∙◌, arith}
+use Rattle.std.proofs.Common.{◌≡◌, ℕ, zero, suc, ◌+◌, ◌<◌, ◌≤◌, ◌==◌, Bool, true, false, cond, List, [], ◌∷◌, ◌++◌, Option, Some, None, length, if◌then◌else◌, refl, sym, ap, subst, ◌∙◌, arith, length-append}
 use Rattle.std.specs.Prelude.{All, slice_get, filter_map, reverse}
 use Rattle.std.specs.List.{position_from, cons_option}
-use Rattle.std.proofs.Common.{length-append}
 use Rattle.std.proofs.lemmas.List.Elements.{All-nil, All-cons, All-weaker}
 use Rattle.std.proofs.lemmas.Option.{slice_get_within}
 use Rattle.xs_names.specs.Names.{NameTable}
@@ -12,8 +11,8 @@ use Rattle.representations.specs.declared.naming.Naming.{Naming}
 use Rattle.representations.specs.Naming.{naming_of}
 use Rattle.representations.specs.declared.parts.Representation.{Representation}
 use Rattle.representations.specs.Behind.{IsBetween, AreBehind}
-use Rattle.representation_forms.specs.declared.defaults.Defaults.{Defaults}
-use Rattle.representation_forms.specs.Methods.{defaults_of}
+use Rattle.representations.specs.declared.defaults.Defaults.{Defaults}
+use Rattle.representations.specs.Methods.{defaults_of}
 use Rattle.set_representations.specs.Members.{place_from, places_of}
 use Rattle.set_representations.specs.Scopes.{openings}
 use Rattle.set_representations.specs.Documents.{representations_from, document_representations, representations_of, representations, shapes_of}

@@ -7,7 +7,7 @@ use Rattle.xs_names.specs.Names.{NameTable, Grown}
 use Rattle.xs_names.proofs.GrownLaws.{Grown-refl, Grown-trans}
 use Rattle.schema_faults.specs.Constructs.{nearest}
 use Rattle.schema_shape.specs.declared.forms.Shape.{Shape}
-use Rattle.representation_forms.specs.Lasting.{IsLasting}
+use Rattle.representations.specs.Lasting.{IsLasting}
 use Rattle.set_representations.specs.Scopes.{has_some, opens, is_opener, bound, scope_of, openings, scope_place, scopes_in}
 use Rattle.set_representations.specs.declared.item_places.ItemPlaces.{ItemPlaces}
 use Rattle.set_representations.specs.inside.Building.{found, opened_place, scope_at, IsOpened}

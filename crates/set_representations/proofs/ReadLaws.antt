@@ -15,10 +15,10 @@ use Rattle.schema_set.specs.declared.documents.SetDocument.{SetDocument}
 use Rattle.representations.specs.Naming.{naming_of}
 use Rattle.representations.specs.declared.parts.Representation.{Representation}
 use Rattle.representations.specs.Named.{names_of, AreIn, AreNamed}
-use Rattle.representation_forms.specs.Lasting.{IsLasting}
-use Rattle.representation_forms.specs.Methods.{defaults_of}
-use Rattle.representation_forms.specs.Wildcards.{KnowsTarget}
-use Rattle.representation_forms.proofs.LastingLaws.{in-Grown}
+use Rattle.representations.specs.Lasting.{IsLasting}
+use Rattle.representations.specs.Methods.{defaults_of}
+use Rattle.representations.specs.Wildcards.{KnowsTarget}
+use Rattle.representations.proofs.LastingLaws.{in-Grown}
 use Rattle.set_representations.specs.Members.{places_of, all_members}
 use Rattle.set_representations.specs.Documents.{representation, representations_from, document_representations, import_of, imports_of, shapes_of}
 use Rattle.set_representations.specs.declared.reader.Reader.{Reader}

@@ -9,7 +9,7 @@ use Rattle.schema_set.specs.declared.documents.SetDocument.{SetDocument}
 use Rattle.representations.specs.Naming.{naming_of}
 use Rattle.representations.specs.declared.parts.Representation.{Representation}
 use Rattle.representations.specs.declared.origins.Origin.{Origin}
-use Rattle.representation_forms.specs.Methods.{defaults_of}
+use Rattle.representations.specs.Methods.{defaults_of}
 use Rattle.set_representations.specs.Scopes.{openings}
 use Rattle.set_representations.specs.Documents.{document_representations, document_scopes, origin_of, origins_of, representations_of, shapes_of}
 use Rattle.set_representations.proofs.BehindLaws.{length-representations_from}

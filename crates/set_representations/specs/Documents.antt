@@ -13,9 +13,9 @@ use Rattle.representations.specs.Naming.{space_in, naming_of}
 use Rattle.representations.specs.Documents.{document_table}
 use Rattle.representations.specs.declared.parts.Representation.{Representation}
 use Rattle.representations.specs.declared.origins.Origin.{Origin}
-use Rattle.representation_forms.specs.declared.defaults.Defaults.{Defaults}
-use Rattle.representation_forms.specs.Methods.{defaults_of}
-use Rattle.representation_forms.specs.Forms.{represented, occurs_in}
+use Rattle.representations.specs.declared.defaults.Defaults.{Defaults}
+use Rattle.representations.specs.Methods.{defaults_of}
+use Rattle.representations.specs.ElementForms.{represented, occurs_in}
 use Rattle.set_representations.specs.Members.{places_of}
 use Rattle.set_representations.specs.Scopes.{openings, scope_place, scopes_in}
 

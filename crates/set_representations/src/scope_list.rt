@@ -3,7 +3,7 @@ ghost use Rattle.xs_names.specs.Names.{Grown};
 ghost use Rattle.schema_faults.specs.Constructs.{nearest};
 ghost use Rattle.schema_shape.specs.declared.forms.Shape.{Shape};
 ghost use Rattle.representations.specs.Documents.{bindings_table};
-ghost use Rattle.representation_forms.specs.Lasting.{IsLasting};
+ghost use Rattle.representations.specs.Lasting.{IsLasting};
 ghost use Rattle.set_representations.specs.Scopes as spec;
 ghost use Rattle.set_representations.specs.inside.Building.{opened_place, scope_at, IsOpened};
 

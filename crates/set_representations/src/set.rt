@@ -4,7 +4,7 @@ ghost use Rattle.xs_names.specs.Scope.{first_scope};
 ghost use Rattle.representations.specs.Documents.{document_table};
 ghost use Rattle.representations.specs.Behind.{AreBehind};
 ghost use Rattle.representations.specs.Named.{AreNamed};
-ghost use Rattle.representation_forms.specs.Lasting.{IsLasting};
+ghost use Rattle.representations.specs.Lasting.{IsLasting};
 ghost use Rattle.set_representations.specs.Documents as spec;
 
 use crate::reader::Reader;

@@ -9,7 +9,7 @@ use Rattle.tree_rows.specs.declared.row.Row.{Row}
 use Rattle.xs_names.specs.Names.{NameTable}
 use Rattle.assess_records.specs.Numbered.{Scope, Head, head_of, heads, names_of}
 use Rattle.compiled_schema.specs.declared.compiled.Compiled.{Compiled}
-use Rattle.tree_names.specs.Found.{HasNames, HasTag}
+use Rattle.plain_tree.specs.Found.{HasNames, HasTag}
 use Rattle.elem_governing.specs.Heads.{IsHead}
 use Rattle.elem_governing.specs.declared.head.ElementHead.{ElementHead}
 use Rattle.tree_assess.specs.inside.Steps.{CanAssess, alone}

@@ -21,7 +21,7 @@ use Rattle.content_models.specs.declared.automaton.ContentAutomaton.{ContentAuto
 use Rattle.compiled_schema.specs.Usable.{IsUsable, AreModels, IsModelOver, set_of}
 use Rattle.compiled_schema.specs.declared.compiled.Compiled.{Compiled}
 use Rattle.assessment.specs.Fitting.{Fits}
-use Rattle.tree_names.proofs.RowLaws.{drop_next}
+use Rattle.plain_tree.proofs.RowLaws.{drop_next}
 use Rattle.assess_records.specs.Numbered.{Scope, Head, head_of, heads, names_of}
 use Rattle.assessment.specs.Attribution.{SchemaSet, content_particle, AreTerms}
 use Rattle.assessment.specs.Assessment.{governed}

@@ -13,7 +13,7 @@ use Rattle.tree_rows.specs.declared.row.Row.{Row}
 use Rattle.elem_governing.specs.View.{AreKnown}
 use Rattle.compiled_schema.specs.Usable.{IsUsable}
 use Rattle.compiled_schema.specs.declared.compiled.Compiled.{Compiled}
-use Rattle.tree_names.specs.Found.{HasNames}
+use Rattle.plain_tree.specs.Found.{HasNames}
 use Rattle.tree_assess.specs.inside.Steps.{CanAssess, alone}
 use Rattle.tree_assess.proofs.Forests.{here, here_text}
 

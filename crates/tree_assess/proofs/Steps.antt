@@ -10,7 +10,7 @@ use Rattle.tree_rows.specs.declared.row.Row.{Row}
 use Rattle.assess_records.specs.Counts.{no_children, with_child}
 use Rattle.assess_records.specs.declared.counts.ChildCounts.{ChildCounts}
 use Rattle.elem_governing.specs.declared.pairs.Governing.{Governing}
-use Rattle.tree_names.proofs.RowLaws.{drop_next}
+use Rattle.plain_tree.proofs.RowLaws.{drop_next}
 use Rattle.assess_records.specs.Numbered.{Scope}
 use Rattle.assessment.specs.Attribution.{SchemaSet}
 use Rattle.assessment.specs.Assessment.{Assessed, nothing, entry, entries, sibling_records, AreAssessed}

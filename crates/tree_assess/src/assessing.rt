@@ -6,7 +6,7 @@ ghost use Rattle.xs_names.specs.Scope.{first_scope};
 ghost use Rattle.tree_rows.specs.Whole.{IsTree};
 ghost use Rattle.elem_governing.specs.View.{AreKnown};
 ghost use Rattle.compiled_schema.specs.Usable.{IsUsable, set_of};
-ghost use Rattle.tree_names.specs.Found.{HasNames};
+ghost use Rattle.plain_tree.specs.Found.{HasNames};
 ghost use Rattle.assess_records.specs.Numbered.{heads};
 ghost use Rattle.tree_assess.specs.Entries.{ArePlain};
 ghost use Rattle.tree_assess.specs.declared.entry.ElementEntry.{ElementEntry as ElementEntryData};

@@ -4,7 +4,7 @@ ghost use Rattle.std.specs.Prelude.{◌≡◌, ◌<◌, All, length, IfOk};
 ghost use Rattle.xs_names.specs.Scope.{first_scope};
 ghost use Rattle.elem_governing.specs.View.{AreKnown};
 ghost use Rattle.compiled_schema.specs.Usable.{IsUsable, set_of};
-ghost use Rattle.tree_names.specs.Found.{HasTag};
+ghost use Rattle.plain_tree.specs.Found.{HasTag};
 ghost use Rattle.assess_records.specs.Numbered.{head_of as head_in};
 ghost use Rattle.assessment.specs.Assessment.{AreJudged};
 ghost use Rattle.tree_assess.specs.Entries.{entry_of};

@@ -4,7 +4,7 @@ ghost use Rattle.std.specs.Prelude.{◌≡◌, ◌<◌, ◌∷◌, ◌++◌, [],
 ghost use Rattle.std.specs.Option.{option_map};
 ghost use Rattle.elem_governing.specs.View.{AreKnown};
 ghost use Rattle.compiled_schema.specs.Usable.{IsUsable, set_of};
-ghost use Rattle.tree_names.specs.Found.{HasTag};
+ghost use Rattle.plain_tree.specs.Found.{HasTag};
 ghost use Rattle.assess_records.specs.Numbered.{head_of as head_in, heads, names_of};
 ghost use Rattle.assessment.specs.Attribution.{content_particle, AreTerms};
 ghost use Rattle.assessment.specs.Assessment.{governed};

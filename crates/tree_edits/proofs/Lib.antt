@@ -15,3 +15,13 @@ pub mod BlockNaming
 pub mod Keeping
 pub mod Testing
 pub mod Naming
+mod Roots
+pub mod Trees
+pub mod Twice
+pub mod Sited
+pub mod InverseLying
+pub mod Written
+pub mod Inverses
+pub mod Fitting
+pub mod Edited
+pub mod Undone

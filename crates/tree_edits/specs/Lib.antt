@@ -11,3 +11,6 @@ pub mod Examples
 pub mod Keeping
 pub mod Tests
 pub mod Names
+pub mod Sites
+pub mod Inverses
+pub mod EditChanges

@@ -15,9 +15,9 @@ use Rattle.xsv_run.specs.from_edit_session.AroundError.{AroundError}
 use Rattle.assessment.specs.Assessment.{Entry as Found}
 use Rattle.what_is_found.specs.IsFound.{IsFound}
 use Rattle.session_model.specs.State.{with_names}
-use Rattle.author_turns.specs.declared.touched.Touched.{Touched}
-use Rattle.undo_log.specs.Log.{Log, log_of}
-use Rattle.undo_log.specs.declared.log.Taken.TheVariants.{Nothing}
+use Rattle.edit_history.specs.declared.touched.Touched.{Touched}
+use Rattle.edit_history.specs.Log.{Log, log_of}
+use Rattle.edit_history.specs.declared.log.Taken.TheVariants.{Nothing}
 use Rattle.told.specs.Told.{Said}
 use Rattle.told.specs.Outcomes.{SetOutcome, accepted, broken}
 use Rattle.xsv_run.specs.from_open_document.Answers.{opened}

@@ -13,14 +13,14 @@ use Rattle.tree_edits.specs.declared.edit.Edit.TheVariants as edits
 use Rattle.tree_edits.proofs.Lying.{lies}
 use Rattle.tag_names.specs.Scopes.{first_scope}
 use Rattle.tree_building.specs.Building.{block}
-use Rattle.tree_inverses.specs.Changes.{Change, put_back, take_out, rename, write, reword, changed, inverse_of, written, Fits}
-use Rattle.tree_inverses.specs.Edits.{change_of}
-use Rattle.tree_inverses.specs.Sites.{first_number}
-use Rattle.tree_inverses.proofs.Inverses.{at_element, element_lies, part_absent}
-use Rattle.tree_inverses.proofs.Lying.{found_has, element_at, text_at, node_of_one}
-use Rattle.tree_inverses.proofs.Twice.{gone, found_changed, has_put}
-use Rattle.tree_inverses.proofs.Undone.{is_change, edit_fits}
-use Rattle.author_turns.specs.declared.touched.Touched.{Touched}
+use Rattle.tree_edits.specs.Inverses.{Change, put_back, take_out, rename, write, reword, changed, inverse_of, written, Fits}
+use Rattle.tree_edits.specs.EditChanges.{change_of}
+use Rattle.tree_edits.specs.Sites.{first_number}
+use Rattle.tree_edits.proofs.Inverses.{at_element, element_lies, part_absent}
+use Rattle.tree_edits.proofs.InverseLying.{found_has, element_at, text_at, node_of_one}
+use Rattle.tree_edits.proofs.Twice.{gone, found_changed, has_put}
+use Rattle.tree_edits.proofs.Undone.{is_change, edit_fits}
+use Rattle.edit_history.specs.declared.touched.Touched.{Touched}
 use Rattle.xsv_run.specs.from_open_document.Touches.{touched, touches, list_of, node_in}
 use Rattle.turn_laws.specs.Lists.{Child, list_at}
 use Rattle.turn_laws.proofs.Lists.{IsListed, option_cases, list_past, listed_from, list_stays, taken_stays, parent_before, parent_after, element_listed, part_stays}

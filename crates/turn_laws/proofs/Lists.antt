@@ -12,7 +12,7 @@ use Rattle.tree_rows.specs.declared.row.Binding.{Binding}
 use Rattle.tree_edits.specs.Edits.{append, has, Found, replaced, renumbered, insert_at}
 use Rattle.tree_edits.specs.Tests.{element_node}
 use Rattle.tree_edits.proofs.Lying.{Lies}
-use Rattle.tree_inverses.proofs.Twice.{gone, past_text, below_element, past_element, has_times, absent}
+use Rattle.tree_edits.proofs.Twice.{gone, past_text, below_element, past_element, has_times, absent}
 use Rattle.doc_tree.specs.Readers.{parent_in}
 use Rattle.turn_laws.specs.Lists.{Child, child, listed, list_at}
 

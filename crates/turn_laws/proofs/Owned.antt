@@ -16,10 +16,10 @@ use Rattle.tree_edits.specs.declared.edit.Edit.{Edit}
 use Rattle.tree_edits.specs.declared.edit.Edit.TheVariants as edits
 use Rattle.edit_script.specs.Commands.{IsReadyOr}
 use Rattle.session_model.specs.State.{next_revision}
-use Rattle.author_turns.specs.declared.turn.Turn.{Turn}
-use Rattle.author_turns.specs.Turns.{turn, same_node, have_common, later, latest, is_unseen, stale}
-use Rattle.author_turns.specs.declared.touched.Touched.{Touched}
-use Rattle.undo_log.specs.Log.{Log}
+use Rattle.edit_history.specs.declared.turn.Turn.{Turn}
+use Rattle.edit_history.specs.Turns.{turn, same_node, have_common, later, latest, is_unseen, stale}
+use Rattle.edit_history.specs.declared.touched.Touched.{Touched}
+use Rattle.edit_history.specs.Log.{Log}
 use Rattle.told.specs.Told.{Said}
 use Rattle.xsv_run.specs.from_open_document.State.{OpenState}
 use Rattle.xsv_run.specs.from_open_document.Touches.{list_of, if_live, fault_by, stale_by, turn_fault}

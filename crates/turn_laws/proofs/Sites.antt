@@ -9,10 +9,10 @@ use Rattle.tree_rows.specs.declared.row.Binding.{Binding}
 use Rattle.tree_edits.specs.Edits.{append, has, Found, replaced, insert_at, with_children}
 use Rattle.tree_edits.specs.Tests.{element_node}
 use Rattle.tree_edits.proofs.Lying.{Lies, lies, append-none}
-use Rattle.tree_inverses.specs.Sites.{Site, site_in, first_number, node_of, node_by}
-use Rattle.tree_inverses.proofs.Lying.{found_has, one_lies}
-use Rattle.tree_inverses.proofs.Sited.{parent_in, site_below}
-use Rattle.tree_inverses.proofs.Twice.{IsNodeOf, past_text, below_element, past_element, has_put, has_head}
+use Rattle.tree_edits.specs.Sites.{Site, site_in, first_number, node_of, node_by}
+use Rattle.tree_edits.proofs.InverseLying.{found_has, one_lies}
+use Rattle.tree_edits.proofs.Sited.{parent_in, site_below}
+use Rattle.tree_edits.proofs.Twice.{IsNodeOf, past_text, below_element, past_element, has_put, has_head}
 
 -- ---- the number of a node
 

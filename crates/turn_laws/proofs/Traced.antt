@@ -13,18 +13,18 @@ use Rattle.tree_edits.specs.Edits.{can_be_made}
 use Rattle.tree_edits.specs.Tests.{first_refusal, tests_of, edited, made}
 use Rattle.tree_edits.specs.declared.edit.Edit.{Edit}
 use Rattle.tree_edits.specs.declared.edit.Edit.TheVariants as edits
-use Rattle.tree_inverses.specs.Changes.{Change, inverse_of}
-use Rattle.tree_inverses.specs.Edits.{change_of}
-use Rattle.tree_inverses.proofs.Edited.{made_ok}
+use Rattle.tree_edits.specs.Inverses.{Change, inverse_of}
+use Rattle.tree_edits.specs.EditChanges.{change_of}
+use Rattle.tree_edits.proofs.Edited.{made_ok}
 use Rattle.assessment.specs.Assessment.{Entry as Found}
 use Rattle.assessment.specs.Attribution.{SchemaSet}
 use Rattle.what_is_found.specs.IsFound.{IsFound}
 use Rattle.session_model.specs.State.{with_names, next_revision}
-use Rattle.author_turns.specs.declared.touched.Touched.{Touched}
-use Rattle.undo_log.specs.History.{History, history_of, undone, redone}
-use Rattle.undo_log.specs.History as histories
-use Rattle.undo_log.specs.Log.{Log, log_of, cleared, noted, with_undo_taken, with_undo_answered, with_redo_taken, with_redo_answered}
-use Rattle.undo_log.specs.declared.log.Taken.TheVariants.{Nothing}
+use Rattle.edit_history.specs.declared.touched.Touched.{Touched}
+use Rattle.edit_history.specs.History.{History, history_of, undone, redone}
+use Rattle.edit_history.specs.History as histories
+use Rattle.edit_history.specs.Log.{Log, log_of, cleared, noted, with_undo_taken, with_undo_answered, with_redo_taken, with_redo_answered}
+use Rattle.edit_history.specs.declared.log.Taken.TheVariants.{Nothing}
 use Rattle.xsv_run.specs.from_open_document.State.{OpenState, kept_trees}
 use Rattle.xsv_run.specs.from_open_document.Steps.{Step, step_by, undo_of, redo_of, document_behind, with_turn, with_edit, with_step, with_swap, touched_undone, touched_redone}
 use Rattle.xsv_run.specs.from_open_document.Touches.{touched, touches}

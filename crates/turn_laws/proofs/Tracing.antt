@@ -2,8 +2,8 @@
 use Rattle.std.proofs.Common.{◌≡◌, ℕ, zero, suc, ◌<◌, List, [], ◌∷◌, ◌++◌, map, drop, Some, refl, sym, ap, ◌∙◌, subst}
 use Rattle.std.specs.Prelude.{All}
 use Rattle.tree_rows.specs.Forest.{Forest}
-use Rattle.tree_inverses.specs.Changes.{Change}
-use Rattle.author_turns.specs.declared.touched.Touched.{Touched}
+use Rattle.tree_edits.specs.Inverses.{Change}
+use Rattle.edit_history.specs.declared.touched.Touched.{Touched}
 use Rattle.xsv_run.specs.from_open_document.Touches.{touches}
 use Rattle.turn_laws.specs.Lists.{Child, list_at}
 use Rattle.turn_laws.proofs.Changing.{inverse_at}

@@ -2,7 +2,7 @@
 use Rattle.std.specs.Prelude.{◌≡◌, ◌⊎◌, ℕ, List, [], ◌∷◌, ◌++◌, Option, Some, None}
 use Rattle.tree_edits.specs.declared.edit.Edit.{Edit}
 use Rattle.tree_edits.specs.declared.edit.Edit.TheVariants as edits
-use Rattle.author_turns.specs.declared.turn.Turn.{Turn}
+use Rattle.edit_history.specs.declared.turn.Turn.{Turn}
 use Rattle.told.specs.Told.{Said}
 use Rattle.xsv_run.specs.from_open_document.State.{OpenState}
 use Rattle.xsv_run.specs.Authors.{Read}

@@ -8,8 +8,8 @@ use Rattle.tree_edits.specs.declared.edit.EditError.{EditError}
 use Rattle.edit_script.specs.declared.command.Command.TheVariants as commands
 use Rattle.assessment.specs.Assessment.{Entry}
 use Rattle.assessment.specs.Attribution.{SchemaSet}
-use Rattle.author_turns.specs.declared.touched.Touched.{Touched}
-use Rattle.undo_log.specs.Log.{Log, cleared, noted, with_undo_taken, with_undo_answered, with_redo_taken, with_redo_answered}
+use Rattle.edit_history.specs.declared.touched.Touched.{Touched}
+use Rattle.edit_history.specs.Log.{Log, cleared, noted, with_undo_taken, with_undo_answered, with_redo_taken, with_redo_answered}
 use Rattle.told.specs.Told.{Said}
 use Rattle.xsv_run.specs.from_open_document.State.{OpenState}
 use Rattle.xsv_run.specs.from_open_document.Steps.{with_turn, with_swap}

@@ -8,7 +8,7 @@ use Rattle.xs_names.specs.Scope.{first_scope}
 use Rattle.assessment.specs.Attribution.{SchemaSet}
 use Rattle.assessment.specs.Assessment.{Beside, Entry, Assessed, entries, other_pairs, root_pairs, AreAssessed, IsAssessment}
 use Rattle.assess_records.specs.Numbered.{Scope, heads, scope_in}
-use Rattle.identity_assessment.specs.Identity.{beside_of}
+use Rattle.what_is_found.specs.Identity.{beside_of}
 use Rattle.what_is_found.specs.IsFound.{IsFound, times_found}
 
 pub append-times : (key : ℕ) (xs ys : List Entry) → times_found key (xs ++ ys) ≡ times_found key xs + times_found key ys

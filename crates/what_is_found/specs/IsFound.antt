@@ -6,9 +6,9 @@ use Rattle.tree_rows.specs.Whole.{IsTree}
 use Rattle.attr_assess.specs.Added.{AreNamed}
 use Rattle.assessment.specs.Attribution.{SchemaSet}
 use Rattle.assessment.specs.Assessment.{Entry, Assessed, entries, IsAssessment}
-use Rattle.identity_paths.specs.Reads.{AreIdentities}
-use Rattle.identity_paths.specs.declared.paths.IdentityPaths.{IdentityPaths}
-use Rattle.identity_assessment.specs.Identity.{beside_of}
+use Rattle.xpath_subset.specs.Reads.{AreIdentities}
+use Rattle.xpath_subset.specs.declared.paths.IdentityPaths.{IdentityPaths}
+use Rattle.what_is_found.specs.Identity.{beside_of}
 
 -- These are the entries of the assessment of a document by a set, in document order, with the codes of the set's identity constraints (3.11.4)
 -- and of the document's IDs (3.3.4). The set's table has each name once, those of its attribute declarations among them, the document is one

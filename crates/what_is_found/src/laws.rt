@@ -6,8 +6,8 @@ ghost use Rattle.assessment.specs.Attribution.{SchemaSet};
 ghost use Rattle.assessment.specs.Assessment.{Entry};
 ghost use Rattle.what_is_found.specs.IsFound.{IsFound, times_found};
 
+use crate::{identities_go_by_the_set, identity_codes_join_the_assessment};
 use assessment_laws::the_assessment_is_the_only_one;
-use identity_assessment::{identities_go_by_the_set, identity_codes_join_the_assessment};
 
 /// What is found out about a document by a schema set is one answer.
 pub fn what_is_found_is_the_only_one()

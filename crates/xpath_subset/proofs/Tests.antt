@@ -1,7 +1,6 @@
 -- How a name test can be written as a text.
 use Rattle.std.proofs.Common.{lit<, ◌≡◌, ℕ, ◌==◌, ◌||◌, ◌+◌, Bool, true, false, not, List, [], ◌∷◌, ◌++◌, Option, None, Some, length, refl, sym, ◌∙◌, ap, subst, true≢false, arith, length-append, append_assoc, rules, ◌≢◌}
-use Rattle.std.specs.Prelude.{codes}
-use Rattle.std.specs.Prelude.{bytes_eq}
+use Rattle.std.specs.Prelude.{codes, bytes_eq}
 use Rattle.std.specs.Option.{option_map}
 use Rattle.std.specs.List.{list_any, slice_split}
 use Rattle.std.specs.Str.{chars, IsUtf8}

@@ -13,7 +13,7 @@ use Rattle.schema_set.specs.declared.inputs.SchemaInput.{SchemaInput}
 use Rattle.schema_compile.specs.Outcomes.{IsOutcome}
 use Rattle.schema_compile.specs.declared.outcome.Outcome.{Outcome}
 use Rattle.schema_compile.specs.declared.outcome.Outcome.TheVariants as outcomes
-use Rattle.outcome_laws.specs.Same.{IsSameOutcome}
+use Rattle.told.specs.Same.{IsSameOutcome}
 use Rattle.told.specs.Outcomes.{told_of as outcome_told, Question, SetOutcome, accepted, broken, IsOutcomeOf}
 use Rattle.told.specs.Told.{Said, free, joined, Told, over, asks, Leads}
 use Rattle.told.specs.declared.ending.Ending.{Ending}
@@ -33,8 +33,7 @@ use Rattle.generated_stream.specs.Lines.{stream_text}
 use Rattle.command_words.specs.declared.request.Request.{Request}
 use Rattle.command_words.specs.declared.request.Request.TheVariants.{Read, Generate, Trial}
 use Rattle.xsv_run.specs.Statuses.{status_of}
-use Rattle.xsv_run.specs.Output.{wanted_of as wanted}
-use Rattle.xsv_run.specs.Output.{Output, ComesTo, IsAnswer, IsOutput, IsTrial, output_of, usual_session, told_of, trial_of}
+use Rattle.xsv_run.specs.Output.{wanted_of as wanted, Output, ComesTo, IsAnswer, IsOutput, IsTrial, output_of, usual_session, told_of, trial_of}
 use Rattle.xsv_run.specs.Complete.{IsByOutcome, IsCheckOutput, IsStreamOutput, answer, answered_output}
 use Rattle.xsv_run.proofs.Replies.{says_back, says_on, last_back, last_said, last_ending, commands_back, commands_on}
 

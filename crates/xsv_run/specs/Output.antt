@@ -10,7 +10,7 @@ use Rattle.told.specs.Going.{Trace, trace, Goes, Breaks}
 use Rattle.told.specs.declared.break_off.BreakOff.TheVariants as breaks
 use Rattle.told.specs.declared.ending.Ending.{Ending}
 use Rattle.generated_stream.specs.Lines.{stream_lines, stream_text}
-use Rattle.generated_trial.specs.Summaries.{trial_text, accepted, refused, end_line}
+use Rattle.generated_stream.specs.Summaries.{trial_text, accepted, refused, end_line}
 use Rattle.stream_answers.specs.Output.{sections_told}
 use Rattle.stream_answers.specs.declared.wanted.Wanted.{Wanted}
 use Rattle.stream_sections.specs.declared.asked.Asked.{Asked}

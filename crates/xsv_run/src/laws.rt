@@ -15,8 +15,8 @@ ghost use Rattle.xsv_run.specs.Complete.{AreReplies, IsPresent, IsByOutcome, IsC
 ghost use Rattle.xsv_run.specs.Authors.{Read, IsAlike, AreAnswers, ArePlain};
 
 use kept_next::answers_are_one;
-use outcome_laws::outcomes_are_one;
 use stream_sections::streams_are_read;
+use told::outcomes_are_one;
 use what_is_found::what_is_found_is_the_only_one;
 
 /// For what is asked and the bytes of a source there is one output.

@@ -23,8 +23,8 @@ use Rattle.doc_nodes.specs.declared.content.NameAttribute.{NameAttribute}
 use Rattle.doc_changes.specs.Stands.{expanded_of}
 use Rattle.doc_changes.specs.Held.{attributes_at, has_number}
 use Rattle.doc_changes.specs.Held as nodes
-use Rattle.doc_planting.specs.Fits.{Fits}
-use Rattle.tree_names.specs.Table.{with_expanded}
+use Rattle.doc_changes.specs.Fits.{Fits}
+use Rattle.plain_tree.specs.Table.{with_expanded}
 
 -- each change of an element of this number is refused so
 pub record IsNoElement (d : Document) (key : ℕ) (error : EditError) : Type 0 where

@@ -2,7 +2,7 @@
 use Rattle.std.specs.Prelude.{ℕ, ◌+◌, List, [], ◌∷◌, ◌++◌, Option, Some}
 use Rattle.identity_constraints.specs.Seen.{KeyForest, none, element}
 use Rattle.path_walk.specs.inside.Walk.{size}
-use Rattle.identity_counts.specs.Counting.{Numbers, none as no_numbers, node}
+use Rattle.identity_constraints.specs.Counting.{Numbers, none as no_numbers, node}
 
 -- the places of siblings and of all below them, from a place on
 abbrev pub placed : ℕ → KeyForest → Numbers

@@ -4,13 +4,13 @@ use Rattle.xs_names.specs.Names.{NameTable}
 use Rattle.xs_codes.specs.declared.code.Code.{Code}
 use Rattle.xs_codes.specs.declared.fault.Found.{Found}
 use Rattle.xs_components.specs.Tables.{Tables}
-use Rattle.identity_paths.specs.declared.paths.IdentityPaths.{IdentityPaths}
-use Rattle.identity_counts.specs.Counting.{Links, Numbers, IsLinked, StandFor, firsts}
-use Rattle.identity_carry.specs.Tables.{AreParents}
+use Rattle.xpath_subset.specs.declared.paths.IdentityPaths.{IdentityPaths}
+use Rattle.identity_constraints.specs.Counting.{Links, Numbers, IsLinked, StandFor, firsts}
+use Rattle.key_records.specs.Tables.{AreParents}
 use Rattle.identity_constraints.specs.Seen.{KeyElement, KeyForest, none, element}
 use Rattle.path_walk.specs.inside.Walk.{size}
 use Rattle.identity_constraints.specs.Targets.{outcomes}
-use Rattle.identity_views.specs.Views.{AreCounted}
+use Rattle.key_records.specs.Views.{AreCounted}
 use Rattle.key_records.specs.Counted.{Counted, Feature, own_tuples, plus}
 use Rattle.key_records.specs.Records.{AreRecords}
 use Rattle.key_records.specs.declared.records.KeyRecords.{KeyRecords}

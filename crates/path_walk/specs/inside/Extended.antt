@@ -4,7 +4,7 @@ use Rattle.std.specs.List.{list_any, flat_map}
 use Rattle.simple_values.specs.declared.key.Key.{Key}
 use Rattle.xs_names.specs.Names.{NameTable}
 use Rattle.xs_components.specs.Tables.{Tables}
-use Rattle.identity_paths.specs.declared.paths.IdentityPaths.{IdentityPaths}
+use Rattle.xpath_subset.specs.declared.paths.IdentityPaths.{IdentityPaths}
 use Rattle.identity_constraints.specs.Seen.{KeyElement, KeyForest, Reached}
 use Rattle.identity_constraints.specs.Targets.{FieldNode, Outcome, key_sequence, is_misused, is_nillable, is_target}
 use Rattle.path_walk.specs.Outcomes.{outcome_in}

@@ -7,8 +7,8 @@ use Rattle.derive_faults.specs.AttrFaults.{AreIdMarks}
 use Rattle.attr_uses.specs.Tables.{AreTablesOf}
 use Rattle.attr_uses.specs.declared.tables.AttrTables.{AttrTables}
 use Rattle.component_tables.specs.Types.{AreDeclarationsOf}
-use Rattle.subst_groups.specs.Groups.{AreGroups}
-use Rattle.element_classes.specs.Classes.{AreClassesOf}
+use Rattle.element_declarations.specs.Groups.{AreGroups}
+use Rattle.element_declarations.specs.Classes.{AreClassesOf}
 use Rattle.component_tables.specs.Named.{spaces_of}
 use Rattle.component_tables.specs.ContentTypes.{AreContentsOf}
 use Rattle.content_models.specs.declared.automaton.ContentAutomaton.{ContentAutomaton}
@@ -16,7 +16,7 @@ use Rattle.schema_models.specs.SetModels.{content_of, AreModels, IsBroken}
 use Rattle.schema_check.specs.Phases.{IsFirstOfPhases}
 use Rattle.schema_check.specs.declared.documents.CompiledSet.{CompiledSet}
 use Rattle.compiled_schema.specs.declared.compiled.Compiled.{Compiled}
-use Rattle.identity_paths.specs.Reads.{AreIdentities}
+use Rattle.xpath_subset.specs.Reads.{AreIdentities}
 use Rattle.schema_compile.specs.declared.finding.Found.{Found}
 use Rattle.schema_compile.specs.declared.finding.Faultless.{Faultless}
 use Rattle.schema_compile.specs.Outcomes.{attr_phase, derivation_phase, late_phases}

@@ -11,10 +11,10 @@ use Rattle.content_models.specs.Built.{IsStateTotal, IsBuilt, HasRoom, IsRefused
 use Rattle.content_models.specs.declared.automaton.ContentAutomaton.{ContentAutomaton}
 use Rattle.content_models.specs.declared.refused.ModelError.{ModelError}
 use Rattle.content_models.specs.declared.refused.ModelError.TheVariants as errors
-use Rattle.model_checks.specs.Consistency.{IsConsistent}
-use Rattle.model_checks.specs.Checks.{IsAmbiguousModel}
-use Rattle.model_checks.specs.declared.fault.ModelFault.{ModelFault}
-use Rattle.model_checks.specs.declared.fault.ModelFault.TheVariants.{TooManyPositions, TooManyStates, TableTooLarge, Inconsistent, Ambiguous}
+use Rattle.schema_models.specs.Consistency.{IsConsistent}
+use Rattle.schema_models.specs.Checks.{IsAmbiguousModel}
+use Rattle.schema_models.specs.declared.fault.ModelFault.{ModelFault}
+use Rattle.schema_models.specs.declared.fault.ModelFault.TheVariants.{TooManyPositions, TooManyStates, TableTooLarge, Inconsistent, Ambiguous}
 use Rattle.schema_models.specs.SetModels.{place_of, by_place, content_of, type_fault, code_of, most_cells, IsBrokenOf, IsBrokenAt, AreModels}
 use Rattle.schema_models.specs.declared.filling.Progress.{Progress}
 

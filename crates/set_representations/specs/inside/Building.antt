@@ -7,8 +7,8 @@ use Rattle.xs_names.specs.Scope.{first_scope}
 use Rattle.schema_shape.specs.declared.forms.Shape.{Shape}
 use Rattle.representations.specs.declared.parts.Representation.{Representation}
 use Rattle.representations.specs.Named.{AreNamed}
-use Rattle.representation_forms.specs.Lasting.{IsLasting}
-use Rattle.representation_forms.specs.Wildcards.{KnowsTarget}
+use Rattle.representations.specs.Lasting.{IsLasting}
+use Rattle.representations.specs.Wildcards.{KnowsTarget}
 use Rattle.set_representations.specs.Members.{all_members}
 use Rattle.set_representations.specs.Scopes.{scope_place, scopes_in}
 use Rattle.set_representations.specs.Documents.{representations_from, imports_of}

@@ -13,7 +13,7 @@ use Rattle.elem_governing.specs.View.{AreKnown}
 use Rattle.elem_governing.specs.declared.pairs.Governing.{Governing}
 use Rattle.compiled_schema.specs.Usable.{IsUsable}
 use Rattle.compiled_schema.specs.declared.compiled.Compiled.{Compiled}
-use Rattle.tree_names.specs.Found.{HasNames}
+use Rattle.plain_tree.specs.Found.{HasNames}
 use Rattle.assess_records.specs.Numbered.{Scope, Head, head_of, heads, names_of, scope_in}
 use Rattle.assessment.specs.Attribution.{SchemaSet, content_particle, AreTerms}
 use Rattle.assessment.specs.Assessment.{Entry, Assessed, governed, entries, sibling_records, IsEntry, AreAssessed}

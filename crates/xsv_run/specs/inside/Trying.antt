@@ -3,7 +3,7 @@ use Rattle.std.specs.Prelude.{◌≡◌, ℕ, List, length, Bool, true, false, O
 use Rattle.std.specs.Io.KnownBytes.{Appends}
 use Rattle.xsv_io.specs.Writing.{AppendsFront}
 use Rattle.generated_stream.specs.Lines.{stream_lines}
-use Rattle.generated_trial.specs.Summaries.{trial_text, accepted, refused, end_line}
+use Rattle.generated_stream.specs.Summaries.{trial_text, accepted, refused, end_line}
 use Rattle.xsv_run.specs.declared.status.Status.{Status}
 use Rattle.xsv_run.specs.declared.status.Status.TheVariants.{Valid, WriteFault, Memory}
 

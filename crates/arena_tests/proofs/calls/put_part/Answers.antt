@@ -2,7 +2,7 @@ use Rattle.std.proofs.Common.{sym, subst}
 use Rattle.tree_rows.specs.Forest.{Forest}
 use Rattle.doc_nodes.specs.Nodes.{Nodes}
 use Rattle.doc_changes.specs.Stands.{StandsFor}
-use Rattle.doc_planting.proofs.Inserting.{stands_grown}
+use Rattle.doc_changes.proofs.Inserting.{stands_grown}
 use Rattle.tree_edits.specs.Tests.{with_nodes}
 use Rattle.tree_edits.specs.declared.edit.Edit.TheVariants as edits
 use Rattle.arena_tests.proofs.Fitting.{stands_by}

@@ -2,7 +2,7 @@ use Rattle.std.specs.Prelude.{insert, length, remove}
 use Rattle.std.proofs.Common.{◌+◌}
 use Rattle.std.proofs.lemmas.Result.{on_ok_weaker}
 use Rattle.child_listing.specs.from_kept_records.Slots.{kept_at, pair_at}
-use Rattle.doc_documents.specs.Readers.{name_at}
+use Rattle.doc_changes.specs.Readers.{name_at}
 use Rattle.doc_nodes.specs.Nodes.{element_children}
 use Rattle.child_lists.specs.Family.{model_of, symbols_of}
 use Rattle.child_lists.proofs.Listed.{unlisted-any, child-element, symbol-alone, in-list, place-free, listed-in, removed-many, as-many-steps}

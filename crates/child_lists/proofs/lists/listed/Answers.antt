@@ -3,7 +3,7 @@ use Rattle.std.proofs.lemmas.Option.{none-some}
 use Rattle.content_automaton.specs.Symbols.{symbol_of}
 use Rattle.content_automaton.specs.Terms.{name_at}
 use Rattle.content_models.specs.Built.{symbols_of}
-use Rattle.doc_documents.specs.Readers.{name_at as named_at}
+use Rattle.doc_changes.specs.Readers.{name_at as named_at}
 use Rattle.child_listing.proofs.Symbols.{model-of, names-within}
 use Rattle.child_lists.proofs.Listed.{name-there, name-is, name-within}
 use Rattle.child_lists.proofs.lists.listed.Goals as goal

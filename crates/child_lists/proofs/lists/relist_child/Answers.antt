@@ -1,7 +1,7 @@
 use Rattle.std.specs.Prelude.{length, slice_set}
 use Rattle.std.proofs.Common.{◌+◌}
 use Rattle.child_listing.specs.from_kept_records.Slots.{kept_at, pair_at}
-use Rattle.doc_documents.specs.Readers.{name_at}
+use Rattle.doc_changes.specs.Readers.{name_at}
 use Rattle.doc_nodes.specs.Nodes.{element_children}
 use Rattle.child_lists.specs.Family.{model_of, symbols_of}
 use Rattle.child_lists.proofs.Listed.{unlisted-any, child-element, symbol-alone, in-list, place-taken, listed-again, set-many, as-many-steps}

@@ -1,5 +1,5 @@
 use Rattle.std.proofs.Common.{length, sym, ◌∙◌}
-use Rattle.doc_documents.specs.Readers.{name_at}
+use Rattle.doc_changes.specs.Readers.{name_at}
 use Rattle.doc_nodes.specs.Nodes.{element_children}
 use Rattle.child_listing.specs.from_kept_records.Slots.{kept_at}
 use Rattle.child_lists.specs.Family.{model_of, symbols_of}

@@ -1,5 +1,5 @@
 use Rattle.std.proofs.Common.{◌∙◌}
-use Rattle.subst_groups.proofs.HeadLaws.{head-is, named-below}
+use Rattle.element_declarations.proofs.HeadLaws.{head-is, named-below}
 use Rattle.derive_faults.proofs.exclusions.fault_of.Goals as goal
 
 pub is_derived-requires-clause-there : goal.is_derived-requires-clause-there

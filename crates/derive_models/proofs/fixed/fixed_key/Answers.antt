@@ -5,7 +5,7 @@ use Rattle.component_tables.specs.ContentTypes.{content_of}
 use Rattle.component_tables.specs.Types.{type_of}
 use Rattle.simple_types.specs.SimpleTypes.{IsWhole}
 use Rattle.component_tables.proofs.DeclaredLaws.{type-there}
-use Rattle.element_classes.specs.Values.{IsTextKey}
+use Rattle.element_declarations.specs.Values.{IsTextKey}
 use Rattle.derive_models.specs.inside.Numbered.{IsFixedKey}
 use Rattle.derive_models.proofs.FixedLaws.{text-whole, fixed-key}
 use Rattle.derive_models.proofs.fixed.fixed_key.Goals as goal

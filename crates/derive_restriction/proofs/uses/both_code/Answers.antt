@@ -1,7 +1,7 @@
 use Rattle.std.proofs.Common.{◌↔◌, None, subst}
 use Rattle.std.specs.Prelude.{IsTrue}
 use Rattle.std.specs.Option.{option_copied}
-use Rattle.derive_values.specs.Values.{effective, LosesFixed}
+use Rattle.derive_faults.specs.Values.{effective, LosesFixed}
 use Rattle.derive_restriction.specs.Uses.{declared}
 use Rattle.derive_restriction.proofs.UseLaws.{three-first}
 use Rattle.derive_restriction.proofs.uses.both_code.Goals as goal

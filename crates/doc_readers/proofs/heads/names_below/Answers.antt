@@ -1,7 +1,7 @@
 use Rattle.std.proofs.Common.{ap, ◌∙◌, [], ◌∷◌, ◌++◌, get_or, map}
 use Rattle.std.specs.Prelude.{filter}
 use Rattle.doc_nodes.specs.Nodes.{is_element_at}
-use Rattle.doc_documents.specs.Readers.{name_at}
+use Rattle.doc_changes.specs.Readers.{name_at}
 use Rattle.doc_readers.proofs.Shown.{more_named}
 use Rattle.doc_readers.proofs.heads.names_below.Goals as goal
 

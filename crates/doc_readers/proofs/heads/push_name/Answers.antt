@@ -1,5 +1,5 @@
 use Rattle.doc_nodes.specs.Nodes.{is_element_at}
-use Rattle.doc_documents.specs.Readers.{name_at}
+use Rattle.doc_changes.specs.Readers.{name_at}
 use Rattle.doc_readers.proofs.Shown.{one_named, none_named, some_more, none_more}
 use Rattle.doc_readers.proofs.heads.push_name.Goals as goal
 

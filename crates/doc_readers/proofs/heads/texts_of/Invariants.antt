@@ -1,5 +1,5 @@
 use Rattle.std.proofs.Common.{◌≡◌, map, take}
-use Rattle.doc_heads.specs.Heads.{text_named}
+use Rattle.doc_readers.specs.Heads.{text_named}
 use Rattle.doc_readers.proofs.heads.texts_of.Given as goal
 
 abbrev pub invariant-loop-attribute : goal.invariant-loop-attribute

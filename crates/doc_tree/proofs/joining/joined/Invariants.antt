@@ -1,6 +1,6 @@
 use Rattle.std.proofs.Common.{◌≡◌, take, string_bytes}
 use Rattle.std.specs.List.{flat_map}
-use Rattle.doc_documents.specs.Readers.{chars_at}
+use Rattle.doc_changes.specs.Readers.{chars_at}
 use Rattle.doc_tree.proofs.joining.joined.Given as goal
 
 abbrev pub invariant-loop-node : goal.invariant-loop-node

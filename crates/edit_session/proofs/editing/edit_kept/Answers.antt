@@ -1,8 +1,8 @@
 use Rattle.std.proofs.Common.{sym, subst}
 use Rattle.compiled_schema.specs.declared.compiled.Compiled.{Compiled}
-use Rattle.tree_inverses.specs.Changes.{inverse_of}
-use Rattle.tree_inverses.specs.Edits.{change_of}
-use Rattle.doc_inverses.specs.Changes.{Means}
+use Rattle.tree_edits.specs.Inverses.{inverse_of}
+use Rattle.tree_edits.specs.EditChanges.{change_of}
+use Rattle.doc_tree.specs.Changes.{Means}
 use Rattle.edit_session.specs.Edited.{IsDone}
 use Rattle.edit_session.specs.Held.{Stands, document_in}
 use Rattle.edit_session.proofs.Making.{counted-so, done-so, stands-reached, stands-ready}

@@ -1,7 +1,7 @@
 use Rattle.std.proofs.Common.{sym, subst}
 use Rattle.xs_names.specs.Names.{NameTable}
 use Rattle.compiled_schema.specs.Usable.{IsUsable}
-use Rattle.tree_names.specs.Found.{HasNames}
+use Rattle.plain_tree.specs.Found.{HasNames}
 use Rattle.edit_session.proofs.Results.{on-ok}
 use Rattle.edit_session.proofs.opening.nodes_of.Goals as goal
 

@@ -1,6 +1,6 @@
 use Rattle.std.proofs.Common.{◌≡◌, ◌++◌}
 use Rattle.tree_rows.specs.Forest.{count}
-use Rattle.tree_names.specs.Found.{HasNames}
+use Rattle.plain_tree.specs.Found.{HasNames}
 use Rattle.elem_governing.proofs.Siblings.{names_in}
 use Rattle.elem_governing.proofs.children.child_names.Given as goal
 

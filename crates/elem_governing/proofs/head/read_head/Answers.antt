@@ -1,6 +1,6 @@
 use Rattle.std.proofs.Common.{◌∙◌, ap, subst, sym}
 use Rattle.assess_records.specs.Numbered as numbered
-use Rattle.tree_names.specs.Found.{HasName, HasAttributes, HasBindings}
+use Rattle.plain_tree.specs.Found.{HasName, HasAttributes, HasBindings}
 use Rattle.elem_governing.proofs.Tags.{head}
 use Rattle.elem_governing.proofs.head.read_head.Goals as goal
 

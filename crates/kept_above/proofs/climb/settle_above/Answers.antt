@@ -1,6 +1,6 @@
 use Rattle.std.proofs.Common.{rules, ◌≡◌, sym, subst, ◌∙◌, arith}
 use Rattle.compiled_schema.specs.declared.compiled.Compiled.{Compiled}
-use Rattle.doc_documents.proofs.Reading.{depth_below}
+use Rattle.doc_changes.proofs.Reading.{depth_below}
 use Rattle.kept_above.specs.Climbing.{IsClimbing}
 use Rattle.kept_above.proofs.Climbing.{settled}
 use Rattle.kept_above.proofs.climb.settle_above.Goals as goal

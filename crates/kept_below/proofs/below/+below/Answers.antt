@@ -9,7 +9,7 @@ use Rattle.assess_records.specs.Counts.{with_child, counts_of}
 use Rattle.elem_governing.specs.declared.pairs.Governing.{Governing}
 use Rattle.compiled_schema.specs.declared.compiled.Compiled.{Compiled}
 use Rattle.doc_nodes.specs.Nodes.{Nodes, Has, element_children}
-use Rattle.doc_documents.specs.Readers.{element_numbers}
+use Rattle.doc_changes.specs.Readers.{element_numbers}
 use Rattle.kept_slots.specs.Slots.{at}
 use Rattle.child_listing.specs.from_kept_records.Slots.{blank}
 use Rattle.child_listing.specs.from_kept_state.Kept.{CanGovern, FitBut, IsBeside, children_at}

@@ -3,7 +3,7 @@ use Rattle.tree_rows.specs.Forest.{Forest}
 use Rattle.assess_records.specs.Counts.{counts_of}
 use Rattle.elem_governing.specs.declared.pairs.Governing.{Governing}
 use Rattle.doc_nodes.specs.Nodes.{Has, node, depth_by}
-use Rattle.doc_documents.specs.Readers.{element_numbers}
+use Rattle.doc_changes.specs.Readers.{element_numbers}
 use Rattle.child_listing.specs.from_kept_state.Kept.{FitBut, IsBeside}
 use Rattle.child_listing.specs.from_kept_state.Governed.{Governed}
 use Rattle.child_listing.specs.Children.{AreGoverned}

@@ -1,10 +1,10 @@
 use Rattle.std.proofs.Common.{inl, inr, refl, sym, subst}
 use Rattle.std.proofs.lemmas.Result.{IfOk-weaker, on_ok_weaker}
-use Rattle.tree_inverses.specs.Changes as law
+use Rattle.tree_edits.specs.Inverses as law
 use Rattle.doc_changes.specs.Stands.{StandsFor}
-use Rattle.doc_inverses.specs.Changes.{Means}
-use Rattle.doc_inverses.specs.declared.change.Change.{Change}
-use Rattle.doc_inverses.proofs.Meaning.{takes}
+use Rattle.doc_tree.specs.Changes.{Means}
+use Rattle.doc_tree.specs.declared.change.Change.{Change}
+use Rattle.doc_tree.proofs.Meaning.{takes}
 use Rattle.kept_changes.proofs.Following.{changed-beside}
 use Rattle.kept_changes.specs.declared.change.Spot.TheVariants.{Pruned}
 use Rattle.kept_inverses.proofs.Following.{inverse-at, inverse-turned, inverse-takes, pruned-inverse, takes-out, take-below, take-fits}

@@ -1,6 +1,6 @@
 use Rattle.std.proofs.Common.{subst}
-use Rattle.doc_inverses.specs.Changes.{Means}
-use Rattle.doc_inverses.specs.declared.change.Change.{Change}
+use Rattle.doc_tree.specs.Changes.{Means}
+use Rattle.doc_tree.specs.declared.change.Change.{Change}
 use Rattle.kept_changes.proofs.Under.{text-below}
 use Rattle.kept_inverses.proofs.Following.{put-row, take-fits, take-below, reword-kind}
 use Rattle.kept_inverses.proofs.change.spot_of.Goals as goal

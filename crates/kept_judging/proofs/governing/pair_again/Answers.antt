@@ -1,6 +1,6 @@
 use Rattle.std.proofs.Common.{◌<◌, length, All, sym, subst}
 use Rattle.assess_records.specs.declared.shape.NamedText.{NamedText}
-use Rattle.doc_documents.specs.Readers.{scope_at}
+use Rattle.doc_changes.specs.Readers.{scope_at}
 use Rattle.kept_judging.proofs.Heads.{scope-known, texts-named}
 use Rattle.kept_judging.proofs.Reading.{known-read}
 use Rattle.kept_judging.proofs.governing.pair_again.Goals as goal

@@ -1,7 +1,7 @@
 use Rattle.std.proofs.Common.{◌<◌, length, All, sym, ◌∙◌, subst}
 use Rattle.assess_records.specs.declared.shape.NamedText.{NamedText}
 use Rattle.compiled_schema.specs.Usable.{set_of}
-use Rattle.doc_documents.specs.Readers.{scope_at}
+use Rattle.doc_changes.specs.Readers.{scope_at}
 use Rattle.kept_state.specs.from_kept_records.Fit.{head_at}
 use Rattle.kept_state.specs.Kept.{CanGovern}
 use Rattle.kept_judging.proofs.Heads.{scope-known, texts-named}

@@ -1,6 +1,6 @@
 use Rattle.std.proofs.Common.{◌≡◌, ◌++◌, ap, ◌∙◌}
 use Rattle.std.proofs.lemmas.Result.{IfOk-weaker}
-use Rattle.doc_documents.specs.Readers.{own_scope, scope_at}
+use Rattle.doc_changes.specs.Readers.{own_scope, scope_at}
 use Rattle.kept_judging.proofs.Heads.{scope-outer}
 use Rattle.kept_judging.proofs.view.head_of.Goals as goal
 

@@ -1,7 +1,7 @@
 use Rattle.std.proofs.Common.{List, ◌++◌, map, ℕ, sym, ap, ◌∙◌, subst}
 use Rattle.identity_constraints.specs.Seen.{KeyForest}
-use Rattle.identity_paths.specs.declared.paths.IdentityPaths.{IdentityPaths}
-use Rattle.identity_assessment.specs.Identity.{seen}
+use Rattle.xpath_subset.specs.declared.paths.IdentityPaths.{IdentityPaths}
+use Rattle.what_is_found.specs.Identity.{seen}
 use Rattle.forest_keys.specs.Codes.{all_codes}
 use Rattle.path_walk.specs.Sight.{AreNamed}
 use Rattle.kept_above.specs.from_kept_records.Found.{found_in}

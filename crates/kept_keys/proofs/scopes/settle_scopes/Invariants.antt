@@ -1,6 +1,6 @@
 use Rattle.std.proofs.Common.{◌≡◌, All, vec_len}
 use Rattle.tree_rows.specs.Forest.{Document}
-use Rattle.identity_assessment.specs.Identity.{seen}
+use Rattle.what_is_found.specs.Identity.{seen}
 use Rattle.kept_above.specs.from_kept_records.Slots.{IsMade}
 use Rattle.kept_above.specs.from_kept_records.Found.{IsOver, found_in}
 use Rattle.kept_keys.specs.Keys.{IsWhole, KeepsElements}

@@ -8,7 +8,7 @@ use Rattle.xsv_io.proofs.Fronts.{front_before}
 use Rattle.xsv_io.proofs.Sequence.{written_then}
 use Rattle.content_automaton.specs.Symbols.{symbol_of}
 use Rattle.content_models.specs.Built.{symbols_of}
-use Rattle.next_names.specs.Next.{IsNamed, fits_below, lines_below}
+use Rattle.kept_next.specs.Next.{IsNamed, fits_below, lines_below}
 use Rattle.kept_next.specs.Answers.{answers_by, reply}
 use Rattle.kept_next.specs.Place.{fits_at, name_at}
 use Rattle.kept_next.proofs.Written.{reply-is}

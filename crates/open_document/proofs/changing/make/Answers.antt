@@ -1,4 +1,4 @@
-use Rattle.doc_inverses.specs.declared.change.Change.{Change}
+use Rattle.doc_tree.specs.declared.change.Change.{Change}
 use Rattle.open_document.proofs.Making.{closed_by, within_by}
 use Rattle.open_document.proofs.changing.make.Goals as goal
 

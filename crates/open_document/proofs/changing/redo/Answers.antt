@@ -1,9 +1,9 @@
 use Rattle.std.proofs.Common.{slice_get, refl, sym, ap, ◌∙◌}
 use Rattle.std.proofs.lemmas.Bool.{true≢false}
-use Rattle.doc_inverses.specs.declared.change.Change.{Change}
-use Rattle.undo_log.specs.History.{redone}
-use Rattle.undo_log.specs.Log.{Log, with_redo_taken, with_redo_answered}
-use Rattle.undo_histories.proofs.Remembering.{redo_remembered}
+use Rattle.doc_tree.specs.declared.change.Change.{Change}
+use Rattle.edit_history.specs.History.{redone}
+use Rattle.edit_history.specs.Log.{Log, with_redo_taken, with_redo_answered}
+use Rattle.edit_history.proofs.Remembering.{redo_remembered}
 use Rattle.open_document.specs.Held.{state_of}
 use Rattle.open_document.specs.Steps.{touched_redone}
 use Rattle.open_document.proofs.Logging.{none_given, same_logged, can_make, step_made, logged_then, open_then, next_then, step_broken}

@@ -1,11 +1,11 @@
 use Rattle.std.proofs.Common.{refl, sym, ap, ◌∙◌}
 use Rattle.std.proofs.lemmas.Bool.{true≢false}
 use Rattle.circular_buffer.specs.Buffer.{last_item}
-use Rattle.tree_inverses.specs.Changes.{inverse_of}
-use Rattle.doc_inverses.specs.declared.change.Change.{Change}
-use Rattle.undo_log.specs.History.{undone}
-use Rattle.undo_log.specs.Log.{Log, with_undo_taken, with_undo_answered}
-use Rattle.undo_histories.proofs.Remembering.{undo_remembered}
+use Rattle.tree_edits.specs.Inverses.{inverse_of}
+use Rattle.doc_tree.specs.declared.change.Change.{Change}
+use Rattle.edit_history.specs.History.{undone}
+use Rattle.edit_history.specs.Log.{Log, with_undo_taken, with_undo_answered}
+use Rattle.edit_history.proofs.Remembering.{undo_remembered}
 use Rattle.open_document.specs.Held.{state_of}
 use Rattle.open_document.specs.Steps.{touched_undone}
 use Rattle.open_document.specs.Touches.{touches}

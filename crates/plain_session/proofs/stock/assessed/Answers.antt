@@ -2,7 +2,7 @@ use Rattle.std.proofs.Common.{ap, ◌∙◌, map}
 use Rattle.session_model.specs.Asking.{code_total}
 use Rattle.compiled_schema.specs.Usable.{set_of}
 use Rattle.tree_assess.specs.Entries.{entry_of}
-use Rattle.identity_assessment.specs.Identity.{beside_of}
+use Rattle.what_is_found.specs.Identity.{beside_of}
 use Rattle.plain_session.proofs.Known.{found_by, are_named}
 use Rattle.plain_session.proofs.stock.assessed.Goals as goal
 

@@ -1,5 +1,5 @@
 use Rattle.std.proofs.Common.{sym, subst}
-use Rattle.tree_names.specs.Found.{HasNames}
+use Rattle.plain_tree.specs.Found.{HasNames}
 use Rattle.plain_session.proofs.Known.{set_named}
 use Rattle.plain_session.proofs.stock.take_stock.Goals as goal
 

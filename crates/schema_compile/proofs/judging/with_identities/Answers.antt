@@ -4,9 +4,9 @@ use Rattle.std.specs.Global.{Vec}
 use Rattle.xs_codes.specs.declared.fault.Fault.{Fault}
 use Rattle.xs_codes.specs.Least.{IsLeast}
 use Rattle.xs_components.specs.Tables.{Tables}
-use Rattle.identity_faults.specs.Faults.{IsIdentityFault}
-use Rattle.identity_paths.specs.Reads.{AreIdentities}
-use Rattle.identity_paths.specs.declared.paths.IdentityPaths.{IdentityPaths}
+use Rattle.xpath_subset.specs.Faults.{IsIdentityFault}
+use Rattle.xpath_subset.specs.Reads.{AreIdentities}
+use Rattle.xpath_subset.specs.declared.paths.IdentityPaths.{IdentityPaths}
 use Rattle.schema_compile.proofs.PhaseLaws.{broken-identity, judged-in}
 use Rattle.schema_compile.proofs.judging.with_identities.Goals as goal
 

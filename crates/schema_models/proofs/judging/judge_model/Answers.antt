@@ -1,5 +1,5 @@
 use Rattle.std.proofs.Common.{subst}
-use Rattle.model_checks.specs.Checks.{IsJudged}
+use Rattle.schema_models.specs.Checks.{IsJudged}
 use Rattle.schema_models.proofs.JudgeLaws.{judged-none, judged-some}
 use Rattle.schema_models.proofs.judging.judge_model.Goals as goal
 

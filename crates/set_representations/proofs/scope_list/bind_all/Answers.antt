@@ -4,7 +4,7 @@ use Rattle.xs_names.proofs.GrownLaws.{Grown-trans}
 use Rattle.representations.specs.Documents.{bindings_table}
 use Rattle.representations.specs.Naming.{space_in}
 use Rattle.representations.proofs.LaterLaws.{space-later}
-use Rattle.representation_forms.proofs.LastingLaws.{table-more}
+use Rattle.representations.proofs.LastingLaws.{table-more}
 use Rattle.set_representations.specs.Scopes.{bound}
 use Rattle.set_representations.proofs.scope_list.bind_all.Goals as goal
 

@@ -6,7 +6,7 @@ use Rattle.std.specs.List.{flat_map}
 use Rattle.xs_names.specs.Scope.{first_scope}
 use Rattle.xs_names.proofs.GrownLaws.{Grown-refl, Grown-trans}
 use Rattle.representations.specs.Documents.{document_table}
-use Rattle.representation_forms.proofs.LastingLaws.{table-more}
+use Rattle.representations.proofs.LastingLaws.{table-more}
 use Rattle.set_representations.specs.Documents.{set_table, shapes_of, document_scopes, representations_of, origins_of, representations, scopes, origins}
 use Rattle.set_representations.proofs.ReadLaws.{left-one}
 use Rattle.set_representations.proofs.SetLaws.{reps-step, scopes-step, origins-step, first-stays, drop-done}

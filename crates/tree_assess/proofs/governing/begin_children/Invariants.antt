@@ -1,7 +1,7 @@
 use Rattle.std.proofs.Common.{◌≡◌, ◌+◌, ◌++◌, drop, length}
 use Rattle.tree_rows.specs.Forest.{count}
 use Rattle.compiled_schema.specs.Usable.{set_of}
-use Rattle.tree_names.specs.Found.{HasNames}
+use Rattle.plain_tree.specs.Found.{HasNames}
 use Rattle.assess_records.specs.Numbered.{heads}
 use Rattle.tree_assess.specs.inside.Steps.{pairs_in}
 use Rattle.tree_assess.proofs.Pairs.{pairs_of}

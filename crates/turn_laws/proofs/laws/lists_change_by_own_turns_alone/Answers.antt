@@ -1,6 +1,6 @@
 use Rattle.std.proofs.Common.{[]}
-use Rattle.undo_log.specs.Log.{log_of}
-use Rattle.undo_log.specs.declared.log.Taken.TheVariants.{Nothing}
+use Rattle.edit_history.specs.Log.{log_of}
+use Rattle.edit_history.specs.declared.log.Taken.TheVariants.{Nothing}
 use Rattle.xsv_run.specs.from_open_document.Answers.{opened}
 use Rattle.xsv_run.specs.from_open_document.State.{kept_trees}
 use Rattle.turn_laws.proofs.Along.{opened_so, traced_so}

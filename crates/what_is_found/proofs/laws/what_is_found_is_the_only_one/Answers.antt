@@ -1,8 +1,8 @@
 use Rattle.std.proofs.Common.{◌≡◌, List, sym, ap, ◌∙◌, subst}
 use Rattle.assessment.specs.Assessment.{entries, IsAssessment}
 use Rattle.assessment.specs.Plain.{plain_beside}
-use Rattle.identity_paths.specs.declared.paths.IdentityPaths.{IdentityPaths}
-use Rattle.identity_assessment.specs.Identity.{beside_of, with_codes}
+use Rattle.xpath_subset.specs.declared.paths.IdentityPaths.{IdentityPaths}
+use Rattle.what_is_found.specs.Identity.{beside_of, with_codes}
 use Rattle.what_is_found.proofs.laws.what_is_found_is_the_only_one.Goals as goal
 
 pub returns : goal.returns

@@ -1,7 +1,7 @@
 use Rattle.std.proofs.Common.{sym, ◌∙◌, subst}
-use Rattle.tree_inverses.specs.Changes as law
+use Rattle.tree_edits.specs.Inverses as law
 use Rattle.compiled_schema.specs.declared.compiled.Compiled.{Compiled}
-use Rattle.doc_inverses.specs.Changes.{Means}
+use Rattle.doc_tree.specs.Changes.{Means}
 use Rattle.session_model.specs.Spending.{Counts}
 use Rattle.session_model.specs.State.{State}
 use Rattle.edit_session.specs.Changed.{CanChange, IsChanged, IsReached, TakesWithin}

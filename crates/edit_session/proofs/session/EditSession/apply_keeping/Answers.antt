@@ -6,9 +6,9 @@ use Rattle.compiled_schema.specs.declared.compiled.Compiled.{Compiled}
 use Rattle.session_model.specs.Applying.{Applies, IsEdited}
 use Rattle.session_model.specs.Spending.{Counts, BreaksWithin}
 use Rattle.session_model.specs.State.{State}
-use Rattle.tree_inverses.specs.Changes.{inverse_of}
-use Rattle.tree_inverses.specs.Edits.{change_of}
-use Rattle.doc_inverses.specs.Changes.{Means}
+use Rattle.tree_edits.specs.Inverses.{inverse_of}
+use Rattle.tree_edits.specs.EditChanges.{change_of}
+use Rattle.doc_tree.specs.Changes.{Means}
 use Rattle.edit_session.specs.Costs.{edit_cost}
 use Rattle.edit_session.specs.Edited.{IsDone, IsLeft}
 use Rattle.edit_session.specs.Held.{document_in, state_by}

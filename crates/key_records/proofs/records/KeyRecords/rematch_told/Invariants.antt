@@ -1,5 +1,5 @@
 use Rattle.std.proofs.Common.{◌⊎◌, ℕ, length}
-use Rattle.identity_counts.specs.Counting.{Has}
+use Rattle.identity_constraints.specs.Counting.{Has}
 use Rattle.key_records.specs.Records.{IsMatched, IsRematched}
 use Rattle.key_records.proofs.records.KeyRecords.rematch_told.Given as goal
 

@@ -1,7 +1,7 @@
 use Rattle.std.proofs.Common.{◌≡◌, ◌+◌, ◌++◌, ◌∷◌, [], length, reverse, sym, ap, subst, ◌∙◌}
 use Rattle.xs_names.specs.Names.{Grown}
 use Rattle.xs_names.proofs.GrownLaws.{Grown-trans}
-use Rattle.representation_forms.specs.Lasting.{IsLasting}
+use Rattle.representations.specs.Lasting.{IsLasting}
 use Rattle.set_representations.specs.Members.{all_members, places_of}
 use Rattle.set_representations.specs.Documents.{import_of}
 use Rattle.set_representations.specs.declared.reader.Reader.{Reader}

@@ -2,8 +2,8 @@ use Rattle.std.proofs.Common.{◌≡◌, ◌+◌, [], ◌∷◌, take, drop, ref
 use Rattle.std.specs.Prelude.{reverse}
 use Rattle.xs_names.proofs.GrownLaws.{Grown-trans}
 use Rattle.representations.specs.Documents.{shape_table, shapes_table}
-use Rattle.representation_forms.specs.Wildcards.{KnowsTarget}
-use Rattle.representation_forms.proofs.LastingLaws.{table-more}
+use Rattle.representations.specs.Wildcards.{KnowsTarget}
+use Rattle.representations.proofs.LastingLaws.{table-more}
 use Rattle.set_representations.specs.inside.Building.{IsRead}
 use Rattle.std.proofs.lemmas.List.{take_all}
 use Rattle.set_representations.proofs.ReadLaws.{left-one, before-one}

@@ -3,7 +3,7 @@ use Rattle.std.specs.Prelude.{reverse}
 use Rattle.xs_names.specs.Names.{NameTable, Grown}
 use Rattle.representations.specs.Documents.{shapes_table}
 use Rattle.representations.specs.declared.parts.Representation.{Representation}
-use Rattle.representation_forms.specs.Wildcards.{KnowsTarget}
+use Rattle.representations.specs.Wildcards.{KnowsTarget}
 use Rattle.set_representations.specs.inside.Building.{IsRead}
 use Rattle.set_representations.proofs.reader.Reader.add_all.Given as goal
 

@@ -2,7 +2,7 @@ use Rattle.std.proofs.Common.{◌≡◌, ◌+◌, ◌++◌, ◌∷◌, [], lengt
 use Rattle.std.specs.Prelude.{reverse}
 use Rattle.xs_names.specs.Names.{NameTable}
 use Rattle.xs_names.proofs.GrownLaws.{Grown-trans}
-use Rattle.representation_forms.specs.declared.reading.Reading.{Reading}
+use Rattle.representations.specs.declared.reading.Reading.{Reading}
 use Rattle.set_representations.specs.Members.{all_members}
 use Rattle.set_representations.specs.Scopes.{scopes_in}
 use Rattle.set_representations.specs.Documents.{document_representations, imports_of, shapes_of}

@@ -1,8 +1,0 @@
-use Rattle.all_summary.proofs.Running.{letter_is, letters_are}
-use Rattle.all_summary.proofs.laws.summaries_are_runs.Goals as goal
-
-pub returns-clause-letter : goal.returns-clause-letter
-returns-clause-letter c = letter_is
-
-pub returns-clause-letters : goal.returns-clause-letters
-returns-clause-letters c = letters_are

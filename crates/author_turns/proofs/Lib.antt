@@ -1,4 +1,0 @@
-mod Latest
-mod Tables
-mod UpTo
-mod Walks

@@ -1,4 +1,0 @@
-pub mod Examples
-pub mod Logged
-pub mod Table
-pub mod Turns

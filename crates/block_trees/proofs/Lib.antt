@@ -1,2 +1,0 @@
-mod Roots
-pub mod Trees

@@ -1,5 +1,0 @@
-use Rattle.counted_keys.proofs.Linked.{moved-kept}
-use Rattle.counted_keys.proofs.laws.counts_stay_as_an_element_moves.Goals as goal
-
-pub returns : goal.returns
-returns c = λ old new n parent moves lower among is closed none kept. moved-kept old new n parent moves lower among is closed none kept

@@ -1,0 +1,15 @@
+use Rattle.std.proofs.Common.{◌≡◌, ◌≤◌, ◌-◌, length}
+use Rattle.xs_codes.specs.Least.{IsLeast}
+use Rattle.derive_faults.specs.TypeFaults.{IsBelow}
+use Rattle.derive_faults.specs.Attributes.{IsGroupAt}
+use Rattle.derive_faults.proofs.attributes.first_of_groups.Given as goal
+
+abbrev pub invariant-loop-id : goal.invariant-loop-id
+invariant-loop-id l = record {
+  few : l.number ≤ length l.set.parts.now.attr_groups.parts;
+  same : l.types ≡ l.fn.types;
+  least : IsLeast (IsBelow (IsGroupAt l.set.parts.now) l.number) l.best;
+}
+
+abbrev pub decreases-loop-id : goal.decreases-loop-id
+decreases-loop-id l = length l.set.parts.now.attr_groups.parts - l.number

@@ -1,5 +1,0 @@
-use Rattle.doc_documents.proofs.Named.{stands_grown}
-use Rattle.doc_documents.proofs.laws.documents_keep_their_nodes.Goals as goal
-
-pub returns : goal.returns
-returns c = stands_grown

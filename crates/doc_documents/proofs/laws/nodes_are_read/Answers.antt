@@ -1,5 +1,0 @@
-use Rattle.doc_documents.proofs.Reading.{are_read}
-use Rattle.doc_documents.proofs.laws.nodes_are_read.Goals as goal
-
-pub returns : goal.returns
-returns c = λ t ns d s. are_read t ns d.forest s.nodes

@@ -1,4 +1,0 @@
-pub mod Fits
-pub mod Planted
-pub mod Named
-pub mod inside

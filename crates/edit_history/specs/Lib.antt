@@ -1,0 +1,9 @@
+pub mod History
+pub mod Log
+pub mod Steps
+pub mod Meant
+pub mod Through
+pub mod Examples
+pub mod Logged
+pub mod Table
+pub mod Turns

@@ -1,3 +1,0 @@
-mod ClassLaws
-mod Deciding
-mod KeyLaws

@@ -1,0 +1,8 @@
+mod ClassLaws
+mod Deciding
+mod KeyLaws
+pub mod BlockLaws
+pub mod StandLaws
+pub mod OrderLaws
+pub mod GroupLaws
+pub mod HeadLaws

@@ -1,0 +1,4 @@
+pub mod Classes
+pub mod Values
+pub mod inside
+pub mod Groups

@@ -1,8 +1,0 @@
-mod Parsing
-mod Coding
-mod Agreeing
-mod Naming
-mod Stepping
-mod Together
-mod There
-mod Spreading

@@ -1,5 +1,0 @@
-use Rattle.governing_laws.proofs.Ambivalent.{ambivalent-told, told-ambivalent}
-use Rattle.governing_laws.proofs.laws.ambivalent_names_are_told.Goals as goal
-
-pub returns : goal.returns
-returns c = λ s p name. (ambivalent-told s p name, told-ambivalent s p name)

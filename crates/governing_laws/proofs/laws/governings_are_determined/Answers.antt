@@ -1,5 +1,0 @@
-use Rattle.governing_laws.proofs.Governed.{governings-same}
-use Rattle.governing_laws.proofs.laws.governings_are_determined.Goals as goal
-
-pub returns : goal.returns
-returns c = λ s f x y a b n h. governings-same s f x y a b n h

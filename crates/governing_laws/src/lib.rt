@@ -1,6 +1,0 @@
-//! What governs the elements of a document, without what is found of them.
-#![tactic(auto)]
-
-mod laws;
-
-pub use laws::{ambivalent_names_are_told, governings_are_determined, what_is_found_is_governed};

@@ -1,5 +1,0 @@
-use Rattle.grown_assessments.proofs.Terms.{terms-kept}
-use Rattle.grown_assessments.proofs.laws.terms_keep_as_names_are_added.Goals as goal
-
-pub returns : goal.returns
-returns c = λ s new particle children stuck terms g named all h. terms-kept s new g named particle children stuck terms all h

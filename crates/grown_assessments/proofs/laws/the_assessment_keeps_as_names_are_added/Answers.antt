@@ -1,5 +1,0 @@
-use Rattle.grown_assessments.proofs.Assessments.{assessment-kept}
-use Rattle.grown_assessments.proofs.laws.the_assessment_keeps_as_names_are_added.Goals as goal
-
-pub returns : goal.returns
-returns c = λ s new b f found g sound parts members names h. assessment-kept s new g sound parts members b f found names h

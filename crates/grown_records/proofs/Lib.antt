@@ -1,5 +1,0 @@
-pub mod Spaces
-pub mod Heads
-pub mod Types
-pub mod Attrs
-pub mod Elements

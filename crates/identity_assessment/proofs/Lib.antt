@@ -1,4 +1,0 @@
-pub mod Counts
-pub mod Shapes
-pub mod Joining
-pub mod OneReading

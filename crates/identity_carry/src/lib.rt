@@ -1,6 +1,0 @@
-//! The tables of keys and uniques, kept as tuples come and go (Structures 3.11.5).
-#![tactic(auto)]
-
-mod carrying;
-
-pub use carrying::{add_tuple, drop_tuple, is_visible};

@@ -1,0 +1,29 @@
+use Rattle.key_records.proofs.CarryLaws.{dropped, settled-ok, own-less-ok}
+use Rattle.key_records.specs.Tables.{for_key}
+use Rattle.key_records.proofs.ToldLaws.{alike-own, told-one, told-ok, turned}
+use Rattle.key_records.proofs.carrying.drop_tuple.Goals as goal
+
+pub settle-requires-clause-linked : goal.settle-requires-clause-linked
+settle-requires-clause-linked c =
+    let l = c.requires.linked in
+    let touched = dropped l.0 l.1 c.args.tables.now c.drop_entry.new.self c.args.scope c.args.key c.args.tuple.now c.is_seen-was.result c.is_seen-was.ensures l.3 c.drop_entry.ensures in
+    (l.0, l.1, l.2, c.note-waits.ensures.pending l.0 l.2 touched)
+
+pub returns-clause-settled : goal.returns-clause-settled
+returns-clause-settled c =
+    settled-ok c.settle.result c.args.parents.now c.args.tables.now c.drop_entry.new.self c.settle.new.tables c.args.key c.args.tuple.now c.note-waits.result
+    (λ t i p s. c.note-waits.ensures.pending t p (dropped t i c.args.tables.now c.drop_entry.new.self c.args.scope c.args.key c.args.tuple.now c.is_seen-was.result c.is_seen-was.ensures s c.drop_entry.ensures))
+    c.settle.ensures.settled
+
+pub returns-clause-own : goal.returns-clause-own
+returns-clause-own c =
+    own-less-ok c.settle.result c.args.tables.now c.drop_entry.new.self c.settle.new.tables c.args.scope c.args.key c.args.tuple.now c.drop_entry.ensures c.settle.ensures.own
+
+pub returns-clause-told : goal.returns-clause-told
+returns-clause-told c =
+    let old = c.args.tables.now in
+    let middle = c.drop_entry.new.self in
+    let x = for_key c.args.key c.args.tuple.now in
+    told-ok c.settle.result x old middle c.settle.new.tables c.args.told.now.items c.push.new.self.items c.settle.new.told.items
+    (told-one x old middle c.args.scope c.args.told.now.items c.push.new.self.items c.in_ok-push.ensures.items
+    (turned c.args.scope x old middle (alike-own middle old c.args.scope c.args.key c.args.tuple.now c.drop_entry.ensures))) c.settle.ensures.told

@@ -1,7 +1,0 @@
-use Rattle.std.proofs.Common.{◌≡◌, take}
-use Rattle.std.specs.List.{flat_map}
-use Rattle.model_checks.specs.Found.{live_types}
-use Rattle.model_checks.proofs.consistency.find_given.Given as goal
-
-abbrev pub invariant-loop-id : goal.invariant-loop-id
-invariant-loop-id l = l.given.items ≡ flat_map (live_types l.members l.parts) (take l.id-index l.ids)

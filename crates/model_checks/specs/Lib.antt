@@ -1,5 +1,0 @@
-pub mod Consistency
-pub mod Found
-pub mod Checks
-pub mod Named
-pub mod inside

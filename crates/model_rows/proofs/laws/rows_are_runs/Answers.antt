@@ -1,5 +1,0 @@
-use Rattle.model_rows.proofs.Running.{rows_are}
-use Rattle.model_rows.proofs.laws.rows_are_runs.Goals as goal
-
-pub returns : goal.returns
-returns c = rows_are

@@ -1,8 +1,0 @@
-use Rattle.std.proofs.Common.{◌≡◌}
-use Rattle.content_automaton.specs.Automaton.{step_of}
-use Rattle.model_rows.specs.Maps.{width_of}
-use Rattle.model_rows.proofs.Writing.{IsWritten}
-use Rattle.model_rows.proofs.leaf.leaf_row.Given as goal
-
-abbrev pub invariant-loop-state : goal.invariant-loop-state
-invariant-loop-state g l = IsWritten l.fn.rows l.rows l.row (width_of l.automaton) (λ s. step_of l.automaton.machine s l.symbol) l.state

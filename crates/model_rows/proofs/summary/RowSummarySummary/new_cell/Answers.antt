@@ -1,6 +1,0 @@
-use Rattle.model_rows.specs.Lawful.{maps_laws}
-use Rattle.model_rows.proofs.Keeping.{now-live}
-use Rattle.model_rows.proofs.summary.RowSummarySummary.new_cell.Goals as goal
-
-pub returns-clause-made : goal.returns-clause-made
-returns-clause-made c = now-live _ _ _ _ c.set_identity.ensures.row (maps_laws.unit_is _)

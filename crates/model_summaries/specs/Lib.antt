@@ -1,0 +1,4 @@
+pub mod Maps
+pub mod Lawful
+pub mod Masks
+pub mod LawfulMasks

@@ -1,4 +1,0 @@
-mod Symbols
-pub mod Fits
-pub mod Orders
-mod Pushing

@@ -1,5 +1,0 @@
-use Rattle.next_names.proofs.Fits.{one-fit}
-use Rattle.next_names.proofs.laws.symbols_fit_in_one_way.Goals as goal
-
-pub returns : goal.returns
-returns g c = λ before behind symbol fit other h k. one-fit (g.A.Around.is_word c.args.around.now) before behind symbol fit other h k

@@ -1,6 +1,0 @@
-use Rattle.std.proofs.Common.{◌≡◌, map, take}
-use Rattle.next_names.specs.inside.Sorting.{symbol_of}
-use Rattle.next_names.proofs.sorting.symbols_of.Given as goal
-
-abbrev pub invariant-loop-one : goal.invariant-loop-one
-invariant-loop-one l = l.symbols ≡ map symbol_of (take l.one-index l.listed)

@@ -1,2 +1,0 @@
-pub mod LastingLaws
-pub mod NamelessLaws

@@ -1,5 +1,0 @@
-pub mod SetLaws
-pub mod BareLaws
-pub mod FaultLaws
-pub mod PhaseLaws
-pub mod CompileLaws

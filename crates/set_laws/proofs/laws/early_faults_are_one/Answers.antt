@@ -1,5 +1,0 @@
-use Rattle.set_laws.proofs.PhaseLaws.{shapes-one, compositions-one, names-one, bases-one, simples-one}
-use Rattle.set_laws.proofs.laws.early_faults_are_one.Goals as goal
-
-pub returns : goal.returns
-returns c = record { shapes = shapes-one; composition = compositions-one; names = names-one; bases = bases-one; types = simples-one }

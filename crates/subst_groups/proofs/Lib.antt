@@ -1,5 +1,0 @@
-pub mod BlockLaws
-pub mod StandLaws
-pub mod OrderLaws
-pub mod GroupLaws
-pub mod HeadLaws

@@ -1,8 +1,0 @@
-use Rattle.tree_inverses.proofs.Fitting.{kept, fits_back}
-use Rattle.tree_inverses.proofs.laws.inverses_fit.Goals as goal
-
-pub returns-clause-tree : goal.returns-clause-tree
-returns-clause-tree c = kept
-
-pub returns-clause-fits : goal.returns-clause-fits
-returns-clause-fits c = fits_back

@@ -1,4 +1,0 @@
-pub mod Numbers
-pub mod Table
-pub mod Found
-pub mod inside

@@ -1,6 +1,0 @@
-pub mod Ordered
-pub mod RankedLaws
-pub mod PatternLaws
-pub mod StepLaws
-pub mod TypesLaws
-pub mod BrokenLaws

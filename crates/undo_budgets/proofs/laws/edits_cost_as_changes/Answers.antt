@@ -1,5 +1,0 @@
-use Rattle.undo_budgets.proofs.Costs.{same_cost}
-use Rattle.undo_budgets.proofs.laws.edits_cost_as_changes.Goals as goal
-
-pub returns : goal.returns
-returns c = same_cost

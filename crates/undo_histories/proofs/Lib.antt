@@ -1,3 +1,0 @@
-mod Meaning
-mod Leading
-pub mod Remembering

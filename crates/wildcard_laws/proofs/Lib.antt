@@ -1,4 +1,0 @@
-pub mod Forms
-pub mod Terms
-pub mod Filling
-pub mod Wildcards

@@ -1,5 +1,0 @@
-use Rattle.wildcard_laws.proofs.Wildcards.{outcome-spaced}
-use Rattle.wildcard_laws.proofs.laws.wildcards_name_spaces_of_their_table.Goals as goal
-
-pub returns : goal.returns
-returns c = λ documents start set is sound. outcome-spaced set sound documents start is
