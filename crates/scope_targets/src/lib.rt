@@ -13,4 +13,4 @@ pub use counted_laws::{
 };
 pub use keys::CountedKeys;
 pub use laws::{targetings_are_the_outcomes, targetings_stay, targetings_stay_as_names_are_added};
-pub use targetings::{ElementTargeting, targetings_of};
+pub use targetings::{ElementTargeting, add_scope, targetings_of};

@@ -124,9 +124,13 @@ fn add_targets<T: KeySiblings>(
     Ok(())
 }
 
-// Puts an element behind others as a target of the constraints of one scope, to which the way leads back, and puts the name of the scope
-// in front of the way.
-fn add_scope<T: KeySiblings>(
+/// Puts an element behind others as a target of the constraints of one scope, to which the way leads back, and puts the name of the scope
+/// in front of the way. Where the scope lists a constraint twice, it counts once.
+///
+/// # Errors
+///
+/// `AllocError` is want of memory.
+pub fn add_scope<T: KeySiblings>(
     set: &KeySet<'_>,
     target: T,
     scope: &KeySight<'_>,
