@@ -5,5 +5,7 @@ mod Known
 mod Fresh
 mod Making
 mod Applying
+mod Turned
+mod Followed
 pub mod Changing
 mod Placed

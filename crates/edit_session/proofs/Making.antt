@@ -22,6 +22,7 @@ use Rattle.doc_changes.proofs.Named.{has_names, stands_grown}
 use Rattle.doc_edits.specs.Changes.{IsPrepared, changed}
 use Rattle.doc_edits.specs.Changes as prepared
 use Rattle.doc_edits.specs.declared.change.Change.{Change}
+use Rattle.kept_inverses.specs.from_kept_records.Found.{SaysFound}
 use Rattle.kept_inverses.specs.from_kept_state.KeptState.{KeptState}
 use Rattle.kept_inverses.specs.from_kept_children.Edited.{IsRightFor}
 use Rattle.kept_inverses.specs.from_kept_changes.Steps.{Takes}
@@ -70,7 +71,14 @@ module _ (c : Compiled) (names : NameTable) (ns : Nodes) (k : KeptState) (edit :
   pub stands-grown : Stands new ns
   stands-grown = (d, stands_grown c.names names ns d grown sound (stands-right c ns k right))
 
-  pub ready-so : (change : Change) → IsRightFor new ns k → IsPrepared c.names names ns d edit change → IsReady c new ns k edit change
+  -- what is kept is right as it was, by the names that there are now
+  pub present-grown : IsRightFor new ns k → SaysFound new ns k.records.slots k.root_ids d → IsPresent new ns k
+  present-grown still says = record {
+    whole = right-whole new ns k still;
+    says = subst (SaysFound new ns k.records.slots k.root_ids) (sym (document_is names ns d (stands_grown c.names names ns d grown sound (stands-right c ns k right)))) says;
+  }
+
+  pub ready-so : (change : Change) → IsPresent new ns k → IsPrepared c.names names ns d edit change → IsReady c new ns k edit change
   ready-so change still p =
       let z = stands-right c ns k right in
       record {
@@ -80,7 +88,7 @@ module _ (c : Compiled) (names : NameTable) (ns : Nodes) (k : KeptState) (edit :
         prepared = p;
         named = ap (λ (t : NameTable). record (set_of c) { names = t }) (p.names ∙ sym (table_after c.names d edit (changed names d change) (has_names c.names z.table ns d.forest z.nodes) p.makes));
         same_document = document_is names ns d (stands_grown c.names names ns d grown sound z);
-        right = still;
+        present = still;
       }
 
   pub refused-so : (e : EditError) → prepared.IsRefused c.names names ns edit e → IsRefused c new ns edit e
@@ -102,8 +110,11 @@ module _ (old new : Compiled) (ns ms : Nodes) (k : KeptState) (edit : Edit) (cha
   abbrev after : Document
   after = changed new.names (document_in old ns) change
 
+  right-ready : IsRightFor new ns k
+  right-ready = whole-right new ns k ready.present.whole
+
   pub stands-ready : StandsFor new.names ns before
-  stands-ready = subst (StandsFor new.names ns) ready.same_document (stands-right new ns k ready.right)
+  stands-ready = subst (StandsFor new.names ns) ready.same_document (stands-right new ns k right-ready)
 
   abbrev IsReached : ℕ → ℕ → Type 0
   IsReached first last = ((ms ≡ ns) × (last ≡ first)) ⊎ (StandsFor new.names ms after × Takes new ns ms k change first last)
@@ -112,7 +123,7 @@ module _ (old new : Compiled) (ns ms : Nodes) (k : KeptState) (edit : Edit) (cha
       BreaksWithin edit_cost (state_by old ns k revision closed) edit (Ok after) first last
   counted-by revision closed first last le stands takes = λ found is.
       let mine = subst (λ (s : SchemaSet). IsFound s after found) (sym ready.named) is in
-      let few = change-budgeted new ns k before ready.right stands-ready ms edit change ready.is_of ready.can stands found mine first last takes in
+      let few = change-budgeted new ns k before right-ready stands-ready ms edit change ready.is_of ready.can stands found mine first last takes in
       record {
         later = le;
         few = subst (λ (s : SchemaSet). last ≤ first + edit_budget s before (found_by old ns k) after found edit) ready.named few;

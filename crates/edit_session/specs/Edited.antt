@@ -11,7 +11,6 @@ use Rattle.doc_nodes.specs.Nodes.{Nodes}
 use Rattle.doc_edits.specs.Changes.{CanMake, IsOf, IsPrepared, changed}
 use Rattle.doc_edits.specs.declared.change.Change.{Change}
 use Rattle.kept_inverses.specs.from_kept_state.KeptState.{KeptState}
-use Rattle.kept_inverses.specs.from_kept_children.Edited.{IsRightFor}
 use Rattle.edit_session.specs.Held.{document_in, IsPresent}
 
 -- no test of the edit stands, and the change is the edit's; the table of the set has become one with the names of the document that is to
@@ -23,7 +22,7 @@ pub record IsReady (old new : Compiled) (ns : Nodes) (k : KeptState) (edit : Edi
   pub prepared : IsPrepared old.names new.names ns (document_in old ns) edit change
   pub named : set_of new ≡ with_names (set_of old) (changed new.names (document_in old ns) change).forest
   pub same_document : document_in new ns ≡ document_in old ns
-  pub right : IsRightFor new ns k
+  pub present : IsPresent new ns k
 
 -- the edit was made: the nodes are those of the document after it, and all that is kept is right
 pub record IsDone (old new : Compiled) (ns ms : Nodes) (k : KeptState) (edit : Edit) : Type 0 where

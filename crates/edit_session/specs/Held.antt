@@ -10,7 +10,7 @@ use Rattle.doc_changes.specs.Stands.{StandsFor}
 use Rattle.doc_changes.specs.Documents.{document_of}
 use Rattle.kept_inverses.specs.from_kept_records.Found.{SaysFound, found_in}
 use Rattle.kept_inverses.specs.from_kept_state.KeptState.{KeptState}
-use Rattle.kept_keys.specs.Keys.{IsWhole}
+use Rattle.kept_keys.specs.Keys.{AreTargetsBy, IsWhole}
 use Rattle.edit_session.specs.declared.session.EditSession.TheInside.{Inside}
 
 module _ (c : Compiled) (ns : Nodes) where
@@ -38,7 +38,8 @@ module _ (c : Compiled) (ns : Nodes) where
 abbrev pub state_of : Inside → State
 state_of s = state_by s.set.value s.doc s.kept s.revision s.closed
 
--- the nodes stand for a document; and while the session is not closed, all that is kept is right
+-- the nodes stand for a document; and while the session is not closed, all that is kept is right, and what is counted of targets
 pub record IsHeld (s : Inside) : Type 0 where
   pub stands : Stands s.set.value s.doc
   pub present : s.closed ≡ false → IsPresent s.set.value s.doc s.kept
+  pub targets : s.closed ≡ false → AreTargetsBy s.set.value s.doc s.kept.records.slots s.keys

@@ -6,6 +6,7 @@ mod editing;
 mod opening;
 mod reopening;
 mod session;
+mod turning;
 mod undoing;
 
 pub use around::AroundError;

@@ -6,6 +6,7 @@ ghost use Rattle.xs_names.specs.Names.{NameTable};
 ghost use Rattle.compiled_schema.specs.Usable.{IsUsable, set_of};
 ghost use Rattle.session_model.specs.State.{with_names};
 ghost use Rattle.doc_changes.specs.Stands.{StandsFor};
+ghost use Rattle.kept_keys.specs.Keys.{AreTargetsBy};
 ghost use Rattle.edit_session.specs.Held.{IsPresent};
 
 use crate::opening::{Opened, open_document};
@@ -32,6 +33,7 @@ pub(crate) fn reopen_document<L: Ledger>(
     requires usable { IsUsable set.old }
     ensures stands { IfOk result (λ opened. (d : Document) → StandsFor names.now doc.now d → StandsFor set.new.names opened.doc d) }
     ensures present { IfOk result (λ opened. IsPresent set.new opened.doc opened.kept) }
+    ensures targets { IfOk result (λ opened. AreTargetsBy set.new opened.doc opened.kept.records.slots opened.keys) }
     ensures named { OnOk result ((d : Document) → StandsFor names.now doc.now d → set_of set.new ≡ with_names (set_of set.old) d.forest) }
     ensures least { steps.old ≤ steps.new }
     ensures few { (d : Document) → StandsFor names.now doc.now d → steps.new ≤ steps.old + 8 * count d.forest }

@@ -9,6 +9,7 @@ use assess_records::Validity;
 use compiled_schema::Compiled;
 use doc_tree::{Change, DocTree};
 use kept_inverses::kept_state::KeptState;
+use kept_keys::TargetKeys;
 use kept_next::AroundAt;
 use plain_tree::Tree;
 use report_text::Records;
@@ -26,6 +27,7 @@ pub struct EditSession {
     set: Box<Compiled>,
     doc: DocTree,
     kept: KeptState,
+    keys: TargetKeys,
     revision: u64,
     closed: bool,
 }
@@ -81,7 +83,14 @@ impl EditSession {
         if self.closed {
             return Err(SessionError::Closed);
         }
-        match edit_kept(&mut self.doc, &mut self.set, &mut self.kept, edit, steps) {
+        match edit_kept(
+            &mut self.doc,
+            &mut self.set,
+            &mut self.kept,
+            &mut self.keys,
+            edit,
+            steps,
+        ) {
             Ok(back) => {
                 self.revision = self.revision.saturating_add(1);
                 Ok(back)
@@ -113,7 +122,14 @@ impl EditSession {
         if self.closed {
             return Err(SessionError::Closed);
         }
-        match change_kept(&mut self.doc, &mut self.set, &mut self.kept, change, steps) {
+        match change_kept(
+            &mut self.doc,
+            &mut self.set,
+            &mut self.kept,
+            &mut self.keys,
+            change,
+            steps,
+        ) {
             Ok(back) => {
                 self.revision = self.revision.saturating_add(1);
                 Ok(back)
@@ -166,6 +182,7 @@ impl EditSession {
                 self.set = set;
                 self.doc = opened.doc;
                 self.kept = opened.kept;
+                self.keys = opened.keys;
                 self.revision = self.revision.saturating_add(1);
                 Ok(())
             }
@@ -185,10 +202,17 @@ impl EditSession {
 
     /// Lets go of it.
     pub fn close(self) {
-        let EditSession { set, doc, kept, .. } = self;
+        let EditSession {
+            set,
+            doc,
+            kept,
+            keys,
+            ..
+        } = self;
         drop(set);
         drop(doc);
         drop(kept);
+        drop(keys);
     }
 }
 
@@ -224,6 +248,7 @@ impl Session for EditSession {
                 set,
                 doc: opened.doc,
                 kept: opened.kept,
+                keys: opened.keys,
                 revision: 0,
                 closed: false,
             }),

@@ -11,7 +11,7 @@ use Rattle.what_is_found.specs.Identity.{seen}
 use Rattle.doc_nodes.specs.Nodes.{Nodes}
 use Rattle.kept_above.specs.from_kept_records.Slots.{KeptSlots, entry_at}
 use Rattle.kept_above.specs.from_kept_records.Found.{found_in}
-use Rattle.kept_keys.proofs.Staying.{IsSeenAlike}
+use Rattle.kept_targets.proofs.Staying.{IsSeenAlike}
 
 module _ (ns : Nodes) (old new : KeptSlots) where
   abbrev AreSeenAlike : Forest → Type 0

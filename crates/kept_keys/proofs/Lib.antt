@@ -1,13 +1,11 @@
 mod Lists
-mod Firsts
-mod Seeing
 mod Coding
-mod Staying
 mod Found
-mod Numbers
+mod Counted
+mod Grown
+mod Filled
 mod Numbered
 mod Whole
-mod Named
 mod Plain
 mod Deciding
 mod Again

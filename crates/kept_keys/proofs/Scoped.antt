@@ -12,25 +12,14 @@ use Rattle.kept_above.specs.from_kept_records.Slots.{IsMade, kept_at}
 use Rattle.kept_above.specs.from_kept_records.Found.{IsOver, found_in}
 use Rattle.kept_above.specs.from_kept_state.KeptState.{KeptState}
 use Rattle.kept_keys.specs.Keys.{IsWhole, IsCoded, KeepsElements, codes_at}
-use Rattle.kept_keys.specs.Seen.{numbers_in}
 use Rattle.kept_keys.proofs.Lists.{lacks-last}
-use Rattle.kept_keys.proofs.Numbered.{none-lacks}
 use Rattle.kept_keys.proofs.Plain.{none-coded}
-use Rattle.kept_keys.proofs.Whole.{made-there, numbered, seen-stays}
+use Rattle.kept_keys.proofs.Whole.{seen-stays}
 
 -- these are the codes of the elements of these numbers, in a forest as identity constraints see it, and all others have theirs
 pub record AreCodedBut (c : Compiled) (f : KeyForest) (k : KeptState) (numbers : List ℕ) (codes : List (List Found)) : Type 0 where
   pub codes_are : codes ≡ map (codes_at c f) numbers
   pub others : (n : ℕ) → IsMade k.records.slots n → Lacks n numbers → (kept_at k.records.slots n).identity ≡ codes_at c f n
-
--- all wait
-pub coded-none : (c : Compiled) (ns : Nodes) (k : KeptState) (whole : IsWhole c ns k) (d : Document) (over : IsOver c ns k.records.slots d) (numbers : List ℕ) (codes : List (List Found)) →
-    numbers ≡ numbers_in (seen (found_in ns k.records.slots d.forest)) → codes ≡ map (codes_at c (seen (found_in ns k.records.slots d.forest))) numbers →
-    AreCodedBut c (seen (found_in ns k.records.slots d.forest)) k numbers codes
-coded-none c ns k whole d over numbers codes are e = record {
-  codes_are = e;
-  others = λ n made lacks. absurd (none-lacks ns k.records.slots d.forest (numbered c ns k whole d over) n (made-there c ns k whole d over n made) (subst (Lacks n) are lacks));
-}
 
 -- the last of them gets its codes
 module _ (c : Compiled) (f : KeyForest) (old new : KeptState) (numbers rest : List ℕ) (codes less : List (List Found)) (n : ℕ) (own : List Found) (popped : numbers ≡ rest ++ n ∷ [])

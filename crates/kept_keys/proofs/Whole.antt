@@ -18,12 +18,12 @@ use Rattle.kept_above.proofs.from_kept_records.Made.{fit-at, read, made-elements
 use Rattle.kept_above.proofs.from_kept_records.Nodes.{root-numbers}
 use Rattle.kept_above.specs.from_kept_state.KeptState.{KeptState}
 use Rattle.kept_keys.specs.Keys.{IsWhole, KeepsElements}
-use Rattle.kept_keys.specs.Seen.{seen_to}
-use Rattle.kept_keys.proofs.Coding.{seen_times}
+use Rattle.kept_targets.specs.Seen.{seen_to}
+use Rattle.scope_targets.specs.Targetings.{uses}
 use Rattle.kept_keys.proofs.Found.{all-seen, all-borne}
 use Rattle.kept_keys.proofs.Numbered.{AreNumbered, seen-few}
-use Rattle.kept_keys.proofs.Seeing.{seen-is}
-use Rattle.kept_keys.proofs.Staying.{IsSeenAlike, stays-seen}
+use Rattle.kept_targets.proofs.Seeing.{seen-is}
+use Rattle.kept_targets.proofs.Staying.{IsSeenAlike, stays-seen}
 
 -- ---- over a document
 
@@ -41,7 +41,7 @@ module _ (c : Compiled) (ns : Nodes) (k : KeptState) (whole : IsWhole c ns k) (d
   numbered n h = (fit-at c ns k.records.slots k.lists k.root_ids d settled n (there-made n h)).gathered.number_is
 
   -- no number is seen twice
-  pub seen-once : (n : ℕ) → seen_times n (seen (found_in ns k.records.slots d.forest)) ≤ 1
+  pub seen-once : (n : ℕ) → uses n (seen (found_in ns k.records.slots d.forest)) ≤ 1
   seen-once n = let few = seen-few ns k.records.slots d.forest numbered n in let one = over.stands.tree.differ n in omega (arith, few, one)
 
   -- from the root on, with as many levels as there are nodes

@@ -3,23 +3,17 @@ use Rattle.std.specs.Prelude.{◌≡◌, ◌≢◌, ◌↔◌, ℕ, List, []}
 use Rattle.xs_codes.specs.declared.fault.Found.{Found}
 use Rattle.identity_constraints.specs.Seen.{KeyForest}
 use Rattle.identity_constraints.specs.Satisfied.{identity_at}
-use Rattle.compiled_schema.specs.Usable.{set_of}
 use Rattle.compiled_schema.specs.declared.compiled.Compiled.{Compiled}
-use Rattle.doc_nodes.specs.Nodes.{Nodes}
 use Rattle.kept_above.specs.from_kept_records.Slots.{IsMade, kept_at, pair_at}
-use Rattle.kept_above.specs.from_kept_records.Fit.{IsTop}
-use Rattle.kept_above.specs.from_kept_state.Kept.{FitBut, IsBeside}
 use Rattle.kept_above.specs.from_kept_state.KeptState.{KeptState}
+-- what crates above name of `kept_targets`, passed on
+pub use Rattle.kept_targets.specs.Whole.{IsWhole}
+pub use Rattle.kept_targets.specs.Kept.{AreTargets, AreTargetsBy}
+pub use Rattle.kept_targets.specs.Turned.{Turns, WereTargets}
 
 -- the codes of the identity constraints of the element of a number, in a forest as they see it (Structures 3.11.4)
 abbrev pub codes_at : Compiled → KeyForest → ℕ → List Found
 codes_at c f n = identity_at c.names c.parts c.identities.items n f
-
--- all that is kept fits, from the root on
-pub record IsWhole (c : Compiled) (ns : Nodes) (k : KeptState) : Type 0 where
-  pub beside : IsBeside c ns k
-  pub fit : FitBut c ns k []
-  pub top : IsTop (set_of c) ns k.records.slots
 
 -- something is kept of the same elements, governed as before
 pub record KeepsElements (old new : KeptState) : Type 0 where

@@ -1,2 +1,2 @@
-pub mod Seen
 pub mod Keys
+pub mod from_kept_targets

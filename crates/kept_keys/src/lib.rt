@@ -2,7 +2,9 @@
 #![tactic(auto)]
 
 mod codes;
+mod laws;
 mod scopes;
-mod siblings;
 
+pub use kept_targets::{TargetKeys, Turn, add_below};
+pub use laws::keys_stay_right_as_names_are_added;
 pub use scopes::settle_keys;

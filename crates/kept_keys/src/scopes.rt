@@ -10,7 +10,7 @@ ghost use Rattle.kept_above.specs.from_kept_records.Slots.{IsMade, kept_at};
 ghost use Rattle.kept_above.specs.from_kept_records.Fit.{models_of, IsGathered, IsTop};
 ghost use Rattle.kept_above.specs.from_kept_records.Found.{IsOver, SaysFound, found_in};
 ghost use Rattle.kept_above.specs.from_kept_state.Kept.{FitBut, IsBeside};
-ghost use Rattle.kept_keys.specs.Keys.{IsCoded, IsWhole, KeepsCodes, KeepsElements, codes_at};
+ghost use Rattle.kept_keys.specs.Keys.{AreTargetsBy, IsCoded, IsWhole, KeepsCodes, KeepsElements, WereTargets, codes_at};
 
 use crate::codes::{NumberedCodes, codes_of};
 use assess_records::Codes;
@@ -19,6 +19,7 @@ use doc_tree::DocTree;
 use kept_above::kept_judging::judge;
 use kept_above::kept_state::{Governed, KeptState};
 use kept_above::settle_above;
+use kept_targets::{TargetKeys, Turn};
 use std::alloc::AllocError;
 
 // Judges an element again whose codes of identity constraints, or of IDs, are others, and makes the records above it right.
@@ -73,14 +74,21 @@ fn settle_scope(
     judge_upwards(doc, set, kept, node)
 }
 
-// Finds the codes of the identity constraints of all elements, where the set has any, and makes the records right, the last in document
-// order first.
-fn settle_scopes(doc: &DocTree, set: &mut Compiled, kept: &mut KeptState) -> Result<(), AllocError>
-    requires { IsWhole set.old doc.now kept.old }
+// Finds the codes anew of the elements whose identity constraints can have others, and makes the records right.
+fn settle_scopes(
+    doc: &DocTree,
+    set: &mut Compiled,
+    kept: &mut KeptState,
+    keys: &mut TargetKeys,
+    turn: &Turn,
+) -> Result<(), AllocError>
+    requires whole { IsWhole set.old doc.now kept.old }
+    requires before { set.old.identities.items ≢ [] → WereTargets set.old doc.now kept.old keys.old turn.now }
     ensures whole { OnOk result (IsWhole set.old doc.now kept.new) }
     ensures elements { OnOk result (KeepsElements kept.old kept.new) }
     ensures coded { OnOk result ((d : Document) → IsOver set.old doc.now kept.new.records.slots d → (n : ℕ) → IsMade kept.new.records.slots n
         → (kept_at kept.new.records.slots n).identity ≡ codes_at set.old (seen (found_in doc.now kept.new.records.slots d.forest)) n) }
+    ensures targets { OnOk result (AreTargetsBy set.old doc.now kept.new.records.slots keys.new) }
     ensures same { set.new ≡ set.old }
 {
     if set.identities.is_empty() {
@@ -89,7 +97,7 @@ fn settle_scopes(doc: &DocTree, set: &mut Compiled, kept: &mut KeptState) -> Res
     let NumberedCodes {
         mut numbers,
         mut codes,
-    } = codes_of(doc, set, kept)?;
+    } = codes_of(doc, set, kept, keys, turn)?;
     'left: while let Some(own) = codes.pop() {
         let Some(node) = numbers.pop() else {
             unreachable!()
@@ -117,8 +125,8 @@ fn settle_ids(doc: &DocTree, set: &mut Compiled, kept: &mut KeptState) -> Result
     judge_upwards(doc, set, kept, 1)
 }
 
-/// Finds the codes of the identity constraints of all elements, where the set has identity constraints, and those of IDs at the root,
-/// and makes all records right (Structures 3.3.4, 3.11.4).
+/// Finds anew which targets elements are, the codes of the identity constraints that these count for, and those of IDs at the root, as far
+/// as they can be others than before, and makes all records right (Structures 3.3.4, 3.11.4).
 ///
 /// # Errors
 ///
@@ -128,12 +136,16 @@ pub fn settle_keys(
     doc: &DocTree,
     set: &mut Compiled,
     kept: &mut KeptState,
+    keys: &mut TargetKeys,
+    turn: &Turn,
 ) -> Result<(), AllocError>
-    requires { IsWhole set.old doc.now kept.old }
+    requires whole { IsWhole set.old doc.now kept.old }
+    requires before { set.old.identities.items ≢ [] → WereTargets set.old doc.now kept.old keys.old turn.now }
     ensures whole { OnOk result (IsWhole set.old doc.now kept.new) }
     ensures says { OnOk result ((d : Document) → IsOver set.old doc.now kept.new.records.slots d → SaysFound set.old doc.now kept.new.records.slots kept.new.root_ids d) }
+    ensures targets { OnOk result (AreTargetsBy set.old doc.now kept.new.records.slots keys.new) }
     ensures same { set.new ≡ set.old }
 {
-    settle_scopes(doc, set, kept)?;
+    settle_scopes(doc, set, kept, keys, turn)?;
     settle_ids(doc, set, kept)
 }

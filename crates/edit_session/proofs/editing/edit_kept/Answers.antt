@@ -3,6 +3,7 @@ use Rattle.compiled_schema.specs.declared.compiled.Compiled.{Compiled}
 use Rattle.tree_edits.specs.Inverses.{inverse_of}
 use Rattle.tree_edits.specs.EditChanges.{change_of}
 use Rattle.doc_tree.specs.Changes.{Means}
+use Rattle.kept_keys.specs.Keys.{AreTargetsBy}
 use Rattle.edit_session.specs.Edited.{IsDone}
 use Rattle.edit_session.specs.Held.{Stands, document_in}
 use Rattle.edit_session.proofs.Making.{counted-so, done-so, stands-reached, stands-ready}
@@ -14,6 +15,16 @@ make_undoable-requires-clause-can g c = (
   stands-ready c.args.set.now c.ready.new.set c.args.doc.now c.args.doc.now c.args.kept.now c.args.edit.now c.in-Ok.change c.in-Ok.ensures.ready,
   c.in-Ok.ensures.ready.can,
 )
+
+pub make_undoable-requires-clause-present : goal.make_undoable-requires-clause-present
+make_undoable-requires-clause-present g c = c.in-Ok.ensures.ready.present
+
+pub make_undoable-requires-clause-targets : goal.make_undoable-requires-clause-targets
+make_undoable-requires-clause-targets g c = c.ready.ensures.targets c.args.keys.now c.requires.targets
+
+pub returns-in-Ok-make_undoable-clause-targets : goal.returns-in-Ok-make_undoable-clause-targets
+returns-in-Ok-make_undoable-clause-targets g c =
+    subst (λ (x : Compiled). AreTargetsBy x c.make_undoable.new.doc c.make_undoable.new.kept.records.slots c.make_undoable.new.keys) (sym c.make_undoable.ensures.same) c.in-Ok-make_undoable.ensures.targets
 
 pub returns-in-Ok-make_undoable-clause-stands : goal.returns-in-Ok-make_undoable-clause-stands
 returns-in-Ok-make_undoable-clause-stands g c =

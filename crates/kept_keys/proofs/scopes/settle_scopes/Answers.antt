@@ -7,9 +7,9 @@ use Rattle.compiled_schema.specs.declared.compiled.Compiled.{Compiled}
 use Rattle.kept_above.specs.from_kept_records.Found.{found_in}
 use Rattle.kept_above.specs.from_kept_records.Slots.{IsMade}
 use Rattle.kept_keys.specs.Keys.{IsWhole}
-use Rattle.kept_keys.proofs.Numbered.{all-numbers}
-use Rattle.kept_keys.proofs.Scoped.{coded-all, coded-more, coded-none, coded-plain, coded-short}
-use Rattle.kept_keys.proofs.Whole.{elements-again, elements-same, numbered, over-before, there-made}
+use Rattle.kept_keys.proofs.Scoped.{coded-all, coded-more, coded-plain, coded-short}
+use Rattle.kept_keys.proofs.Counted.{targets-again}
+use Rattle.kept_keys.proofs.Whole.{elements-again, elements-same, over-before}
 use Rattle.kept_keys.proofs.scopes.settle_scopes.Goals as goal
 
 -- there are no identity constraints
@@ -20,30 +20,25 @@ pub returns-then-is_empty-clause-coded : goal.returns-then-is_empty-clause-coded
 returns-then-is_empty-clause-coded c = λ d over n made.
     let identities = c.args.set.now.identities in
     let none = eqb-true _ 0 (sym c.if-is_empty.ensures) in
-    coded-plain c.args.set.now c.args.doc.now c.args.kept.now c.requires (nil_from_length identities.items (omega (arith, none, identities.ok.0)))
+    coded-plain c.args.set.now c.args.doc.now c.args.kept.now c.requires.whole (nil_from_length identities.items (omega (arith, none, identities.ok.0)))
     (seen (found_in c.args.doc.now c.args.kept.now.records.slots d.forest)) n
 
--- all wait
+-- those that are answered wait, and all others have their codes
 pub left-init : goal.left-init
 left-init c =
-    let set = c.args.set.now in
-    let ns = c.args.doc.now in
-    let k = c.args.kept.now in
-    let over = c.requires.beside.over in
     let all = c.in_ok-numbers in
     record {
       same = refl;
-      whole = c.requires;
-      elements = elements-same k;
-      made = subst (All (IsMade k.records.slots)) (sym (all.ensures.numbers over.0 over.1))
-          (all-numbers ns k.records.slots (IsMade k.records.slots) over.0.forest (numbered set ns k c.requires over.0 over.1) (there-made set ns k c.requires over.0 over.1));
-      coded = λ d o. coded-none set ns k c.requires d o all.field-0.numbers.items all.field-0.codes.items (all.ensures.numbers d o) (all.ensures.codes d o);
+      whole = c.requires.whole;
+      elements = elements-same c.args.kept.now;
+      made = all.ensures.made;
+      coded = λ d o. record { codes_are = all.ensures.codes d o; others = all.ensures.rest d o };
     }
 
 -- there are as many numbers as codes
 pub unreachable-requires : goal.unreachable-requires
 unreachable-requires c =
-    let over = c.requires.beside.over in
+    let over = c.requires.whole.beside.over in
     coded-short c.args.set.now (seen (found_in c.args.doc.now c.args.kept.now.records.slots over.0.forest)) c.left.kept c.left.numbers.items c.left.codes.items c.pop.new.self.items c.in-Some.own
     (nil_from_length c.left.numbers.items (omega (arith, c.in_default-pop.ensures.cases.0, c.left.numbers.ok.0))) c.in-Some.ensures.items (c.left.invariant.coded over.0 over.1)
 
@@ -89,5 +84,25 @@ returns-clause-coded c = λ d over.
     let old = c.args.kept.now in
     let l = c.left in
     let whole = subst (λ (s : Compiled). IsWhole s ns l.kept) l.invariant.same l.invariant.whole in
-    coded-all set ns old l.kept c.requires whole l.invariant.elements d over l.numbers.items l.codes.items (nil_from_length l.codes.items (omega (arith, c.in_default.ensures.cases.0, l.codes.ok.0)))
-    (l.invariant.coded d (over-before set ns old l.kept c.requires whole l.invariant.elements d over))
+    coded-all set ns old l.kept c.requires.whole whole l.invariant.elements d over l.numbers.items l.codes.items (nil_from_length l.codes.items (omega (arith, c.in_default.ensures.cases.0, l.codes.ok.0)))
+    (l.invariant.coded d (over-before set ns old l.kept c.requires.whole whole l.invariant.elements d over))
+
+pub codes_of-requires-clause-before : goal.codes_of-requires-clause-before
+codes_of-requires-clause-before c =
+    let identities = c.args.set.now.identities in
+    c.requires.before (λ e. false≢true (c.if-is_empty.ensures ∙ eq-eqb _ 0 (let none : length identities.items ≡ 0 = ap length e in omega (arith, none, identities.ok.0))))
+
+-- without identity constraints nothing is counted
+pub returns-then-is_empty-clause-targets : goal.returns-then-is_empty-clause-targets
+returns-then-is_empty-clause-targets c = λ some.
+    let identities = c.args.set.now.identities in
+    let none = eqb-true _ 0 (sym c.if-is_empty.ensures) in
+    absurd (some (nil_from_length identities.items (omega (arith, none, identities.ok.0))))
+
+pub returns-clause-targets : goal.returns-clause-targets
+returns-clause-targets c = λ some.
+    let set = c.args.set.now in
+    let ns = c.args.doc.now in
+    let l = c.left in
+    let whole = subst (λ (s : Compiled). IsWhole s ns l.kept) l.invariant.same l.invariant.whole in
+    targets-again set ns c.args.kept.now l.kept c.requires.whole whole l.invariant.elements c.codes_of.new.keys c.in_ok-numbers.ensures.targets

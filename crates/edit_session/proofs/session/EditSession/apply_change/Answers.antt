@@ -4,6 +4,7 @@ use Rattle.compiled_schema.specs.declared.compiled.Compiled.{Compiled}
 use Rattle.doc_tree.specs.Changes.{Means}
 use Rattle.session_model.specs.Spending.{Counts}
 use Rattle.session_model.specs.State.{State}
+use Rattle.kept_keys.specs.Keys.{AreTargetsBy}
 use Rattle.edit_session.specs.Changed.{CanChange, IsChanged, IsReached, TakesWithin}
 use Rattle.edit_session.specs.Costs.{change_cost}
 use Rattle.edit_session.specs.Held.{document_in, state_by, IsPresent}
@@ -26,7 +27,11 @@ invariant_of-self g c =
     let m = subst (λ (x : State). CanChange x c.args.change q.0) (sym c.self.view_is) q.1 c.if-self.false in
     let reached = subst (λ (x : Compiled). (o : law.Change) → Means x.names c.args.change o → law.Fits (document_in x old.doc) o → IsReached x old.doc new.doc new.kept o) c.deref_mut.ensures.value c.in-Ok.ensures.done q.0 m.0 m.1 in
     let same = c.change_kept.ensures.same ∙ c.deref_mut.ensures.value in
-    record { stands = c.change_kept.ensures.stands; present = λ open_now. subst (λ (x : Compiled). IsPresent x new.doc new.kept) (sym same) reached.present }
+    record {
+      stands = c.change_kept.ensures.stands;
+      present = λ open_now. subst (λ (x : Compiled). IsPresent x new.doc new.kept) (sym same) reached.present;
+      targets = λ open_now. subst (λ (x : Compiled). AreTargetsBy x new.doc new.kept.records.slots new.keys) (sym c.change_kept.ensures.same) c.in-Ok.ensures.targets;
+    }
 
 pub returns-in-Ok-clause-changes : goal.returns-in-Ok-clause-changes
 returns-in-Ok-clause-changes g c = λ own can.

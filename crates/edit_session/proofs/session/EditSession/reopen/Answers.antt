@@ -6,9 +6,9 @@ use Rattle.compiled_schema.specs.declared.compiled.Compiled.{Compiled}
 use Rattle.doc_changes.specs.Stands.{StandsFor}
 use Rattle.session_model.specs.Spending.{Counts}
 use Rattle.session_model.specs.State.{State, with_names}
-use Rattle.edit_session.specs.Held.{document_in, Stands, IsPresent, state_by}
+use Rattle.edit_session.specs.Held.{document_in, Stands, state_by}
 use Rattle.edit_session.specs.Reopened.{IsReopened, swap_cost}
-use Rattle.edit_session.proofs.Applying.{reopened-so, stands-reopened}
+use Rattle.edit_session.proofs.Applying.{reopened-so}
 use Rattle.edit_session.proofs.Standing.{stands-now}
 use Rattle.edit_session.proofs.session.EditSession.reopen.Goals as goal
 
