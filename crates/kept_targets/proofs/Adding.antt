@@ -1,5 +1,5 @@
 -- Elements put behind others, with those below them.
-use Rattle.std.proofs.Common.{◌≡◌, ◌≢◌, ◌⊎◌, ◌+◌, ◌-◌, ◌<◌, ◌≤◌, ℕ, zero, suc, true, List, [], ◌∷◌, ◌++◌, Option, None, Some, inl, inr, refl, sym, ap, ◌∙◌, subst, arith}
+use Rattle.std.proofs.Common.{◌≡◌, ◌⊎◌, ◌+◌, ◌-◌, ◌<◌, ◌≤◌, ℕ, zero, suc, true, List, [], ◌∷◌, ◌++◌, Option, None, Some, inl, inr, refl, sym, ap, ◌∙◌, subst, arith}
 use Rattle.std.specs.Prelude.{slice_get}
 use Rattle.std.specs.Option.{option_and_then}
 use Rattle.std.proofs.lemmas.Bool.{cases_eq}
@@ -62,6 +62,10 @@ place-before [] j i x none f = absurd (none-some x f)
 place-before (y ∷ ys) zero i x none f = absurd (none-some y (sym none))
 place-before (y ∷ ys) (suc j) zero x none f = omega arith
 place-before (y ∷ ys) (suc j) (suc i) x none f = let l = place-before ys j i x none f in omega (arith, l)
+
+pub has-place : (xs : List ℕ) (x : ℕ) → Has x xs → (place : ℕ) × (slice_get xs place ≡ Some x)
+has-place [] x h = absurd h
+has-place (y ∷ ys) x h = elim h [ inl e ↦ (0, ap Some e) | inr later ↦ let r = has-place ys x later in (suc r.0, r.1) ]
 
 -- so many levels upwards and one more, by the last but one
 record EndsAt (ns : Nodes) (levels m n : ℕ) : Type 0 where
@@ -140,10 +144,6 @@ module _ (t : Tables) (ns : Nodes) (ks : KeptSlots) (was : ℕ → Option Elemen
         | inl q ↦ subst (λ (y : ℕ). IsLookedAt t ns ks was new y) (sym (same_Some x child (sym f ∙ ap (slice_get (element_children ns n)) q ∙ e))) own
         | inr other ↦ looked-more old new still x (done i x (omega (arith, l, other)) f)
       ]
-
-  has-place : (xs : List ℕ) (x : ℕ) → Has x xs → (place : ℕ) × (slice_get xs place ≡ Some x)
-  has-place [] x h = absurd h
-  has-place (y ∷ ys) x h = elim h [ inl e ↦ (0, ap Some e) | inr later ↦ let r = has-place ys x later in (suc r.0, r.1) ]
 
   pub looked-all : (n place : ℕ) (moved : List ℕ) → slice_get (element_children ns n) place ≡ None → AreLookedUpTo n moved place → (c : ℕ) → Has c (element_children ns n) → IsLookedAt t ns ks was moved c
   looked-all n place moved ended done c h =

@@ -1,7 +1,6 @@
 -- The elements around another, as they are seen: what is below it, and those above it.
-use Rattle.std.proofs.Common.{◌≡◌, ◌+◌, ◌-◌, ◌<◌, ◌≤◌, ℕ, zero, suc, All, List, [], ◌∷◌, length, Option, None, Some, true, inl, inr, refl, sym, ap, ◌∙◌, subst, arith}
+use Rattle.std.proofs.Common.{◌≡◌, ◌-◌, ◌<◌, ◌≤◌, ℕ, zero, suc, List, [], ◌∷◌, length, Option, None, Some, true, refl, sym, ap, ◌∙◌, subst, arith}
 use Rattle.std.proofs.lemmas.List.Elements.{All-nil, All-cons}
-use Rattle.std.proofs.lemmas.Option.{none-some, same_Some}
 use Rattle.tree_rows.specs.declared.limits.TheConstants.{MAX_DEPTH}
 use Rattle.identity_constraints.specs.Seen as keys
 use Rattle.identity_constraints.specs.Seen.{KeyElement, KeyForest}
@@ -9,7 +8,7 @@ use Rattle.what_is_found.specs.Identity.{seen_element}
 use Rattle.scope_targets.specs.Found.{AreNamesOf}
 use Rattle.scope_targets.specs.Kin.{Kin, AreAbove, AreSeen}
 use Rattle.compiled_schema.specs.declared.compiled.Compiled.{Compiled}
-use Rattle.doc_nodes.specs.Nodes.{Nodes, Has, node, depth_by, is_element_at, element_children}
+use Rattle.doc_nodes.specs.Nodes.{Nodes, node, depth_by, is_element_at, element_children}
 use Rattle.doc_changes.specs.Held.{parent_at}
 use Rattle.child_lists.specs.from_kept_records.Slots.{entry_at}
 use Rattle.child_lists.specs.from_kept_state.KeptState.{KeptState}

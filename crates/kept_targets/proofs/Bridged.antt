@@ -1,5 +1,5 @@
 -- All that is found anew, by what was right before: nothing, or all of a document that has become another.
-use Rattle.std.proofs.Common.{◌≡◌, ◌≢◌, ◌⊎◌, ◌++◌, ℕ, List, [], Option, Some, true, inl, inr, refl, sym, ap, ◌∙◌, subst}
+use Rattle.std.proofs.Common.{◌≡◌, ◌≢◌, ◌⊎◌, ◌++◌, ℕ, List, [], Some, true, inl, inr, subst}
 use Rattle.tree_rows.specs.Forest.{Document}
 use Rattle.identity_constraints.specs.Satisfied.{identity_at}
 use Rattle.what_is_found.specs.Identity.{seen}
@@ -15,7 +15,7 @@ use Rattle.kept_targets.specs.Counting.{Adopts, AreScopesAbove, CanAdopt, Finds,
 use Rattle.kept_targets.specs.Kept.{AreTargets, IsTargetOf}
 use Rattle.kept_targets.specs.Moved.{IsLookedAt, IsMarked}
 use Rattle.kept_targets.specs.Touched.{IsTouching}
-use Rattle.kept_targets.specs.Turned.{Follows, Opens, WereTargets, gone_of, list_of, lowest_of, own_of}
+use Rattle.kept_targets.specs.Turned.{WereTargets, gone_of, list_of, lowest_of, own_of}
 use Rattle.kept_targets.specs.Whole.{IsWhole}
 use Rattle.kept_targets.specs.declared.above.Touched.{Touched}
 use Rattle.kept_targets.specs.declared.keys.TargetKeys.{TargetKeys}

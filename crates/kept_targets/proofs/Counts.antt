@@ -10,7 +10,7 @@ use Rattle.identity_constraints.specs.Counting.{Links, IsLinked}
 use Rattle.key_records.specs.Tables.{parent_in}
 use Rattle.scope_targets.specs.Targetings.{Targeting}
 use Rattle.scope_targets.specs.Counted.{TargetSlots, targets_at}
-use Rattle.scope_targets.specs.Kept.{AreKept, CanKeep, Reparents, Retargets, parent_of, targets_of}
+use Rattle.scope_targets.specs.Kept.{AreKept, CanKeep, Reparents, parent_of, targets_of}
 use Rattle.scope_targets.specs.Linked.{links_by}
 use Rattle.scope_targets.specs.declared.keys.CountedKeys.{CountedKeys}
 use Rattle.scope_targets.proofs.Linked.{linked-by, moved-kept, same-kept}
@@ -21,7 +21,7 @@ use Rattle.child_lists.specs.from_kept_records.KeptElement.{KeptElement}
 use Rattle.child_lists.specs.from_kept_records.Slots.{KeptSlots, IsKept}
 use Rattle.compiled_schema.specs.declared.compiled.Compiled.{Compiled}
 use Rattle.kept_targets.specs.Kept.{IsTargetOf, sign_at, sign_of}
-use Rattle.kept_targets.specs.Counting.{Adopts, AreScopesAbove, Assigns, CanAdopt, Drops, Finds, Forgets, IsAtOrAbove, IsCounting, IsNoTarget, IsAtOrAbove as upward}
+use Rattle.kept_targets.specs.Counting.{Adopts, AreScopesAbove, Assigns, CanAdopt, Drops, Finds, Forgets, IsAtOrAbove, IsNoTarget, IsAtOrAbove as upward}
 use Rattle.kept_targets.specs.declared.keys.ElementSign.{ElementSign}
 use Rattle.kept_targets.specs.declared.keys.TargetKeys.{TargetKeys}
 use Rattle.kept_targets.proofs.Among.{has-or-not, has-next, has-before, has-here, has-taken, has-get, is_left, from-left, to-left, is_right, from-right, to-right, from-other}

@@ -1,8 +1,7 @@
 -- What is seen from an element downwards.
-use Rattle.std.proofs.Common.{◌≡◌, ◌≤◌, ◌+◌, ℕ, zero, suc, List, [], ◌∷◌, Option, Some, true, inl, inr, refl, sym, ap, ◌∙◌, subst, arith}
+use Rattle.std.proofs.Common.{◌≡◌, ◌≤◌, ◌+◌, ℕ, zero, suc, List, [], ◌∷◌, Option, true, inl, inr, refl, sym, ap, subst, arith}
 use Rattle.std.specs.Prelude.{unwrap_or}
 use Rattle.tree_rows.specs.declared.limits.TheConstants.{MAX_DEPTH}
-use Rattle.identity_constraints.specs.Seen as keys
 use Rattle.identity_constraints.specs.Seen.{KeyForest}
 use Rattle.what_is_found.specs.Identity.{seen_element}
 use Rattle.tree_assess.specs.Entries.{entry_of}

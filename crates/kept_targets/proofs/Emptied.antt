@@ -1,10 +1,9 @@
 -- Nothing is kept.
-use Rattle.std.proofs.Common.{◌≡◌, ℕ, zero, suc, List, [], Option, None, Some, refl, sym, ap, ◌∙◌, subst}
+use Rattle.std.proofs.Common.{◌≡◌, ℕ, zero, suc, List, [], Option, None, refl, sym, ap, ◌∙◌}
 use Rattle.std.specs.Option.{option_map}
 use Rattle.std.proofs.lemmas.Option.{none-some}
 use Rattle.identity_constraints.specs.Counting.{Links}
 use Rattle.key_records.specs.Tables.{AreParents, parent_in}
-use Rattle.key_records.specs.declared.references.References.{References}
 use Rattle.scope_targets.specs.Kept.{AreKept, parent_of, targets_of}
 use Rattle.scope_targets.specs.Linked.{links_by}
 use Rattle.forest_keys.specs.inside.Keyrefs.{AreReferencesOf}

@@ -1,13 +1,11 @@
 -- Which elements a turn of a document leaves free.
 use Rattle.std.proofs.Common.{◌≡◌, ◌≢◌, ◌⊎◌, ◌≤◌, ℕ, zero, suc, List, [], ◌∷◌, Option, None, Some, inl, inr, refl, sym, ap, ◌∙◌, subst, true, arith}
-use Rattle.std.specs.Prelude.{unwrap_or}
 use Rattle.std.specs.Option.{option_and_then}
 use Rattle.std.proofs.lemmas.Bool.{cases_eq}
 use Rattle.std.proofs.lemmas.Option.{none-some, same_Some}
 use Rattle.simple_types.proofs.Valid.{one-outcome}
 use Rattle.elem_governing.specs.declared.pairs.Governing.{Governing}
 use Rattle.identity_constraints.specs.Counting.{Has as KeyHas}
-use Rattle.identity_constraints.specs.Targets.{constraints_of, declaration_of, declared_constraints}
 use Rattle.what_is_found.specs.Identity.{seen_element}
 use Rattle.scope_targets.specs.Kin.{IsSameScope, Leaves}
 use Rattle.compiled_schema.specs.Usable.{set_of}
@@ -15,16 +13,14 @@ use Rattle.compiled_schema.specs.declared.compiled.Compiled.{Compiled}
 use Rattle.doc_nodes.specs.Nodes.{Nodes, IsSound, Has, node, depth_by, is_element_at, element_children}
 use Rattle.doc_changes.specs.Held.{parent_at}
 use Rattle.doc_changes.specs.Readers.{name_at}
-use Rattle.kept_slots.specs.Slots.{at}
 use Rattle.child_lists.specs.from_kept_forgetting.Below.{IsWithin, upwards}
-use Rattle.child_lists.specs.from_kept_records.KeptElement.{KeptElement}
 use Rattle.child_lists.specs.from_kept_records.Fit.{models_of}
-use Rattle.child_lists.specs.from_kept_records.Slots.{IsMade, blank, entry_at, kept_at, pair_at}
+use Rattle.child_lists.specs.from_kept_records.Slots.{entry_at, pair_at}
 use Rattle.child_lists.specs.from_kept_state.KeptState.{KeptState}
 use Rattle.child_lists.proofs.from_kept_forgetting.Walks.{below-within, child-below, self-within}
 use Rattle.kept_targets.specs.Kept.{kin_of, sign_at}
-use Rattle.kept_targets.specs.Moved.{IsLookedAt, IsMarked, IsSteady, constraints_by, IsLookedAt as looked}
-use Rattle.kept_targets.specs.Turned.{Stays, Turns, own_of, listed_of, list_of, lowest_of}
+use Rattle.kept_targets.specs.Moved.{IsLookedAt, IsMarked, constraints_by, IsLookedAt as looked}
+use Rattle.kept_targets.specs.Turned.{Stays, Turns, own_of, list_of, lowest_of}
 use Rattle.kept_targets.specs.Whole.{IsWhole}
 use Rattle.kept_targets.specs.declared.keys.ElementSign.{ElementSign}
 use Rattle.kept_targets.specs.declared.turn.Turn.{Turn}

@@ -1,8 +1,8 @@
 -- Parents and child elements of nodes.
-use Rattle.std.proofs.Common.{◌≡◌, ◌<◌, ℕ, Bool, true, false, cond, List, [], ◌∷◌, Option, None, Some, inl, inr, refl, sym, ap, ◌∙◌, subst, arith}
+use Rattle.std.proofs.Common.{◌≡◌, ◌<◌, ℕ, Bool, true, false, cond, List, [], ◌∷◌, Option, None, Some, inl, inr, refl, sym, ap, ◌∙◌, arith}
 use Rattle.std.specs.Prelude.{filter}
 use Rattle.std.specs.Option.{option_and_then}
-use Rattle.doc_nodes.specs.Nodes.{Node, Nodes, IsSound, IsNode, Has, node, depth_by, children_by, is_element_at, element_children}
+use Rattle.doc_nodes.specs.Nodes.{Node, Nodes, IsSound, Has, node, depth_by, children_by, is_element_at, element_children}
 use Rattle.doc_changes.specs.Held.{parent_at}
 use Rattle.child_lists.proofs.from_kept_forgetting.Placed.{parent-has}
 

@@ -1,13 +1,12 @@
 -- Each element of a document is looked at, where those are that have come, have other texts, attributes or names, or whose place among
 -- others with an ambivalent name is another.
-use Rattle.std.proofs.Common.{◌≡◌, ◌≢◌, ◌⊎◌, ◌≤◌, ◌<◌, ◌+◌, ℕ, zero, suc, Bool, true, false, List, [], ◌∷◌, map, Option, None, Some, inl, inr, refl, sym, ap, ◌∙◌, subst, arith}
+use Rattle.std.proofs.Common.{◌≡◌, ◌≢◌, ◌⊎◌, ◌≤◌, ℕ, zero, suc, Bool, true, false, List, [], ◌∷◌, map, Option, None, Some, inl, inr, refl, sym, ap, ◌∙◌, subst, arith}
 use Rattle.std.specs.Prelude.{slice_get, unwrap_or}
 use Rattle.std.specs.Option.{option_and_then, option_map}
 use Rattle.std.proofs.lemmas.Bool.{cases_eq, false≢true}
 use Rattle.std.proofs.lemmas.Option.{none-some, same_Some}
 use Rattle.tree_rows.specs.Forest.{Document}
 use Rattle.assess_records.specs.Instance.{instance_text}
-use Rattle.assess_records.specs.Numbered.{Head}
 use Rattle.assess_records.specs.declared.instance_names.InstanceAttribute.TheVariants.{TypeName}
 use Rattle.assessment.specs.Attribution.{SchemaSet}
 use Rattle.elem_governing.specs.Governing.{govern_child, govern_root}
@@ -17,13 +16,13 @@ use Rattle.compiled_schema.specs.declared.compiled.Compiled.{Compiled}
 use Rattle.model_terms.specs.Symbols.{child_symbols}
 use Rattle.model_terms.specs.Terms.{term_in}
 use Rattle.doc_nodes.specs.Nodes.{Nodes, IsSound, Has, Lacks, node, depth_by, is_element_at, element_children}
-use Rattle.doc_changes.specs.Held.{parent_at, attributes_at}
-use Rattle.doc_changes.specs.Readers.{name_at, scope_at}
+use Rattle.doc_changes.specs.Held.{parent_at}
+use Rattle.doc_changes.specs.Readers.{name_at}
 use Rattle.doc_nodes.specs.declared.content.NameAttribute.{NameAttribute}
 use Rattle.doc_readers.specs.Heads.{text_named, texts_named}
 use Rattle.kept_slots.specs.Slots.{at}
 use Rattle.child_lists.specs.Family.{marked_places}
-use Rattle.child_lists.specs.from_kept_forgetting.Below.{IsWithin, upwards}
+use Rattle.child_lists.specs.from_kept_forgetting.Below.{upwards}
 use Rattle.child_lists.proofs.Edits.{get-map}
 use Rattle.child_lists.proofs.Terms.{terms-same}
 use Rattle.child_lists.proofs.from_kept_forgetting.Walks.{below-within, child-below}
@@ -37,7 +36,7 @@ use Rattle.child_lists.specs.from_kept_records.Slots.{IsMade, blank, kept_at, pa
 use Rattle.child_lists.specs.from_kept_records.Fit.{models_of, model_at, symbols_at, head_at, IsFit}
 use Rattle.child_lists.specs.from_kept_state.KeptState.{KeptState}
 use Rattle.kept_targets.specs.Kept.{sign_at, sign_of}
-use Rattle.kept_targets.specs.Moved.{IsLookedAt, IsMarked, IsSteady, IsLookedAt as looked}
+use Rattle.kept_targets.specs.Moved.{IsLookedAt, IsMarked, IsLookedAt as looked}
 use Rattle.kept_targets.specs.Turned.{Stays, Turns, own_of, listed_of, list_of}
 use Rattle.kept_targets.specs.Whole.{IsWhole}
 use Rattle.kept_targets.proofs.Links.{child-up, parent-lower}

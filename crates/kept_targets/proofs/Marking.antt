@@ -1,10 +1,9 @@
 -- The child elements whose names are ambivalent, one after another.
-use Rattle.std.proofs.Common.{◌≡◌, ◌+◌, ◌<◌, ◌≤◌, ℕ, zero, suc, List, [], ◌∷◌, length, map, Option, None, Some, inl, inr, refl, sym, ap, ◌∙◌, subst, arith}
+use Rattle.std.proofs.Common.{◌≡◌, ◌+◌, ◌<◌, ◌≤◌, ℕ, zero, suc, List, [], length, map, Option, None, Some, inl, inr, refl, sym, ap, ◌∙◌, subst, arith}
 use Rattle.std.specs.Prelude.{slice_get, MatchOption}
 use Rattle.std.proofs.lemmas.Bool.{cases_eq}
-use Rattle.std.proofs.lemmas.Option.{none-some, same_Some, slice_get_past}
+use Rattle.std.proofs.lemmas.Option.{none-some, same_Some}
 use Rattle.xs_names.specs.Names.{NameTable}
-use Rattle.xs_components.specs.Tables.{Tables}
 use Rattle.content_models.specs.declared.automaton.ContentAutomaton.{ContentAutomaton}
 use Rattle.compiled_schema.specs.Usable.{set_of}
 use Rattle.compiled_schema.specs.declared.compiled.Compiled.{Compiled}
@@ -18,12 +17,11 @@ use Rattle.std.proofs.lemmas.List.{length-map}
 use Rattle.child_lists.specs.Family.{marked_places}
 use Rattle.child_lists.proofs.Edits.{few-marked, marked-below, some-get}
 use Rattle.child_lists.proofs.Terms.{many-symbols}
-use Rattle.child_lists.specs.from_kept_records.Fit.{models_of, model_at, symbols_at, IsListed}
-use Rattle.child_lists.specs.from_kept_records.Slots.{KeptSlots}
+use Rattle.child_lists.specs.from_kept_records.Fit.{models_of, model_at, IsListed}
 use Rattle.child_lists.specs.from_kept_state.KeptState.{KeptState}
 use Rattle.kept_targets.specs.Moved.{IsLookedAt, IsMarked, marks}
 use Rattle.kept_targets.specs.declared.keys.ElementSign.{ElementSign}
-use Rattle.kept_targets.proofs.Adding.{looked-more, place-before}
+use Rattle.kept_targets.proofs.Adding.{has-place, looked-more, place-before}
 use Rattle.kept_targets.proofs.Firsts.{fewer}
 
 -- ---- by the list
@@ -78,10 +76,6 @@ pub at-child : (c : Compiled) (ns : Nodes) (k : KeptState) (n number place : ℕ
 at-child c ns k n number place e None none =
     absurd (child-at (set_of c).names ns (model_at (set_of c) (models_of c) ns k.records.slots n) n number place (sym e) (sym none))
 at-child c ns k n number place e (Some child) there = (place, sym e, sym there)
-
-has-place : (xs : List ℕ) (x : ℕ) → Has x xs → (place : ℕ) × (slice_get xs place ≡ Some x)
-has-place [] x h = absurd h
-has-place (y ∷ ys) x h = elim h [ inl e ↦ (0, ap Some e) | inr later ↦ let r = has-place ys x later in (suc r.0, r.1) ]
 
 module _ (c : Compiled) (ns : Nodes) (k : KeptState) (was : ℕ → Option ElementSign) (n : ℕ) (but : Option ℕ) where
   abbrev pub AreMarkedUpTo : List ℕ → ℕ → Type 0

@@ -1,11 +1,10 @@
 -- Where nothing was kept, all targets are found.
-use Rattle.std.proofs.Common.{◌≡◌, ◌≢◌, ◌⊎◌, ◌≤◌, ℕ, zero, suc, true, List, [], Option, None, Some, inl, inr, refl, sym, ap, ◌∙◌, subst, arith}
-use Rattle.std.specs.Option.{option_and_then, option_map}
+use Rattle.std.proofs.Common.{◌≡◌, ◌≤◌, ℕ, zero, suc, true, List, [], Option, None, Some, inl, inr, refl, sym, ap, ◌∙◌, subst, arith}
+use Rattle.std.specs.Option.{option_and_then}
 use Rattle.std.specs.declared.alloc.Global.{Global}
 use Rattle.std.specs.declared.vec.Vec.{Vec}
-use Rattle.std.proofs.lemmas.Option.{none-some, same_Some}
+use Rattle.std.proofs.lemmas.Option.{none-some}
 use Rattle.key_records.specs.Tables.{parent_in}
-use Rattle.scope_targets.specs.Targetings.{Targeting}
 use Rattle.scope_targets.specs.Kept.{parent_of, targets_of}
 use Rattle.forest_keys.specs.inside.Keyrefs.{AreReferencesOf}
 use Rattle.key_records.specs.declared.references.References.{References}

@@ -1,6 +1,5 @@
 -- Where a document is another than before, the targets that were found anew are all that can be others.
 use Rattle.std.proofs.Common.{◌≡◌, ◌≢◌, ◌⊎◌, ℕ, Bool, true, false, List, [], ◌∷◌, Option, None, Some, inl, inr, refl, sym, ap, ◌∙◌, subst}
-use Rattle.std.specs.Prelude.{unwrap_or}
 use Rattle.std.specs.Option.{option_map}
 use Rattle.std.specs.declared.alloc.Global.{Global}
 use Rattle.std.specs.declared.vec.Vec.{Vec}
@@ -11,7 +10,7 @@ use Rattle.key_records.specs.Tables.{parent_in}
 use Rattle.identity_constraints.specs.Seen.{KeyElement, KeyForest}
 use Rattle.identity_constraints.specs.Satisfied.{identity_at, identity_codes}
 use Rattle.what_is_found.specs.Identity.{seen, seen_element}
-use Rattle.scope_targets.specs.Kin.{Kin, AreAbove, AreAround, AreSeen, Leaves}
+use Rattle.scope_targets.specs.Kin.{AreAbove, AreAround, AreSeen, Leaves}
 use Rattle.scope_targets.specs.Targetings.{Targeting, targetings_of}
 use Rattle.scope_targets.proofs.Bare.{bare-stays}
 use Rattle.scope_targets.proofs.Staying.{below-stays, targets-stay}

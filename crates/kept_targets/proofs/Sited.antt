@@ -1,18 +1,15 @@
 -- An element as the first of some siblings.
-use Rattle.std.proofs.Common.{◌≡◌, ◌+◌, ◌-◌, ◌<◌, ℕ, zero, List, [], ◌∷◌, drop, Option, None, Some, true, refl, sym, ap, ◌∙◌, subst, arith}
+use Rattle.std.proofs.Common.{◌≡◌, ◌+◌, ◌-◌, ℕ, drop, Option, None, Some, true, refl, sym, ap, ◌∙◌, arith}
 use Rattle.std.specs.Prelude.{slice_get, unwrap_or}
 use Rattle.std.specs.Option.{option_and_then}
 use Rattle.std.proofs.lemmas.Option.{none-some}
 use Rattle.tree_rows.specs.declared.limits.TheConstants.{MAX_DEPTH}
 use Rattle.identity_constraints.specs.Seen as keys
 use Rattle.identity_constraints.specs.Seen.{KeyForest}
-use Rattle.what_is_found.specs.Identity.{seen_element}
-use Rattle.tree_assess.specs.Entries.{entry_of}
 use Rattle.compiled_schema.specs.declared.compiled.Compiled.{Compiled}
 use Rattle.doc_nodes.specs.Nodes.{Nodes, is_element_at, element_children}
 use Rattle.doc_changes.specs.Held.{parent_at}
 use Rattle.child_lists.proofs.from_kept_forgetting.Placed.{root-alone}
-use Rattle.child_lists.specs.from_kept_records.Slots.{entry_at}
 use Rattle.child_lists.specs.from_kept_state.KeptState.{KeptState}
 use Rattle.kept_targets.specs.Kept.{IsFrom}
 use Rattle.kept_targets.specs.Seen.{elements_under, seen_to}

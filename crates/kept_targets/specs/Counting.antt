@@ -1,5 +1,5 @@
 -- What is counted of targets while elements come and go.
-use Rattle.std.specs.Prelude.{◌≡◌, ◌⊎◌, ℕ, List, [], ◌∷◌, Option, None, Some}
+use Rattle.std.specs.Prelude.{◌≡◌, ◌⊎◌, ℕ, List, [], Option, None, Some}
 use Rattle.scope_targets.specs.Targetings.{Targeting}
 use Rattle.scope_targets.specs.Kept.{AreKept, parent_of, targets_of}
 use Rattle.scope_targets.specs.Linked.{links_by}

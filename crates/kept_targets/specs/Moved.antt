@@ -1,5 +1,5 @@
 -- Elements whose names or governing are others than when their targets were found.
-use Rattle.std.specs.Prelude.{◌≡◌, ◌⊎◌, ℕ, List, Option, None, Some, slice_get, true}
+use Rattle.std.specs.Prelude.{◌≡◌, ◌⊎◌, ℕ, List, Option, Some, slice_get, true}
 use Rattle.std.specs.Option.{option_and_then}
 use Rattle.xs_components.specs.Tables.{Tables}
 use Rattle.identity_constraints.specs.Targets.{declared_constraints}

@@ -1,4 +1,4 @@
-use Rattle.std.proofs.Common.{◌≡◌, Some, sym, subst}
+use Rattle.std.proofs.Common.{sym, subst}
 use Rattle.kept_targets.proofs.Looking.{above-there, made-of, sound}
 use Rattle.kept_targets.proofs.Touching.{IsTouchingBut, level-at, touching-end, touching-next, touching-start}
 use Rattle.kept_targets.proofs.above.add_touching.Goals as goal

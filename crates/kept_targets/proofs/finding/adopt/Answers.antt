@@ -1,10 +1,8 @@
-use Rattle.std.proofs.Common.{◌≡◌, ℕ, Option, Some, get_or, sym, ap, ◌∙◌, subst, true}
+use Rattle.std.proofs.Common.{Some, get_or, sym, ap, ◌∙◌, subst}
 use Rattle.scope_targets.specs.Kept.{AreKept, Reparents}
 use Rattle.scope_targets.specs.Linked.{links_by}
 use Rattle.scope_targets.specs.declared.keys.CountedKeys.{CountedKeys}
-use Rattle.doc_nodes.specs.Nodes.{is_element_at}
 use Rattle.doc_changes.specs.Held.{parent_at}
-use Rattle.kept_slots.specs.Slots.{at}
 use Rattle.kept_targets.specs.Kept.{sign_at}
 use Rattle.kept_targets.proofs.Among.{has-get}
 use Rattle.kept_targets.proofs.Counts.{adopt-kept, assigns-all, assigns-next, assigns-none, sign-kept}

@@ -1,5 +1,4 @@
-use Rattle.std.proofs.Common.{get_or, refl, sym, ◌∙◌}
-use Rattle.scope_targets.specs.Kept.{AreKept}
+use Rattle.std.proofs.Common.{get_or, refl, ◌∙◌}
 use Rattle.kept_targets.specs.Kept.{IsTargetOf}
 use Rattle.kept_targets.proofs.Among.{has-get}
 use Rattle.kept_targets.proofs.Counts.{can-keep, counting-still, finds-all, finds-next, finds-none, target-goes}

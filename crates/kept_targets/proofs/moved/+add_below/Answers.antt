@@ -1,5 +1,4 @@
-use Rattle.std.proofs.Common.{◌≡◌, ◌∷◌, ◌++◌, [], ℕ, List, inl, sym, subst, arith}
-use Rattle.std.specs.Prelude.{slice_get}
+use Rattle.std.proofs.Common.{◌≡◌, ℕ, List, inl, sym, subst, arith}
 use Rattle.doc_nodes.specs.Nodes.{Has}
 use Rattle.kept_targets.specs.Moved.{Adds}
 use Rattle.kept_targets.proofs.Adding.{adds-one, adds-same, adds-then, below-all, below-more, child-lower, child-there, child-under, has-pushed-last}
@@ -8,7 +7,7 @@ use Rattle.kept_targets.proofs.moved.+add_below.Goals as goal
 
 pub loop-place-init : goal.loop-place-init
 loop-place-init t c = record {
-  own = subst (Has c.args.node) (sym c.in_ok-push.ensures.items) (has-pushed-last c.args.node c.args.numbers.now.items);
+  own = subst (Has c.args.node) (sym {A = List ℕ} c.in_ok-push.ensures.items) (has-pushed-last c.args.node c.args.numbers.now.items);
   done = λ i child m l e is within. absurd (omega (arith, l));
   adds = adds-same c.args.doc.now c.push.new.self.items (λ m. m ≡ c.args.node);
 }
@@ -48,7 +47,7 @@ pub returns-in_default-clause-adds : goal.returns-in_default-clause-adds
 returns-in_default-clause-adds t c =
     let ns = c.args.doc.now in
     let xs = c.args.numbers.now.items in
-    let first = subst (λ (ys : List ℕ). Adds ns xs ys (λ m. m ≡ c.args.node)) (sym c.in_ok-push.ensures.items) (adds-one ns xs c.args.node c.requires.element) in
+    let first = subst (λ (ys : List ℕ). Adds ns xs ys (λ m. m ≡ c.args.node)) (sym {A = List ℕ} c.in_ok-push.ensures.items) (adds-one ns xs c.args.node c.requires.element) in
     adds-then ns xs c.push.new.self.items c.loop-place.numbers.items (λ m. m ≡ c.args.node) (λ m. m ≡ c.args.node) first c.loop-place.invariant.adds (λ m e. inl e)
 
 pub returns-clause-all : goal.returns-clause-all
@@ -63,5 +62,5 @@ pub returns-clause-adds : goal.returns-clause-adds
 returns-clause-adds t c =
     let ns = c.args.doc.now in
     let xs = c.args.numbers.now.items in
-    let first = subst (λ (ys : List ℕ). Adds ns xs ys (λ m. m ≡ c.args.node)) (sym c.in_ok-push.ensures.items) (adds-one ns xs c.args.node c.requires.element) in
+    let first = subst (λ (ys : List ℕ). Adds ns xs ys (λ m. m ≡ c.args.node)) (sym {A = List ℕ} c.in_ok-push.ensures.items) (adds-one ns xs c.args.node c.requires.element) in
     adds-then ns xs c.push.new.self.items c.loop-place.numbers.items (λ m. m ≡ c.args.node) (λ m. m ≡ c.args.node) first c.loop-place.invariant.adds (λ m e. inl e)

@@ -1,4 +1,4 @@
-use Rattle.std.proofs.Common.{◌≡◌, ◌∷◌, ◌++◌, [], ℕ, List, inl, inr, sym, ap, ◌∙◌, subst, arith}
+use Rattle.std.proofs.Common.{◌≡◌, ℕ, List, inr, sym, ◌∙◌, subst, arith}
 use Rattle.std.proofs.lemmas.Result.{on_ok_weaker}
 use Rattle.doc_nodes.specs.Nodes.{Has, element_children}
 use Rattle.child_lists.proofs.from_kept_forgetting.Placed.{has-at}
@@ -32,7 +32,7 @@ add_moved-add_children-requires t c = (omega (arith, c.decreases), (c.requires.w
 pub add_moved-returns-clause-looked : goal.add_moved-returns-clause-looked
 add_moved-returns-clause-looked t c =
     let steady = c.stays_steady.ensures c.if-not-stays_steady.false in
-    let pushed = subst (Has c.args.node) (sym c.in_ok-push.ensures.items) (has-pushed-last c.args.node c.args.moved.now.items) in
+    let pushed = subst (Has c.args.node) (sym {A = List ℕ} c.in_ok-push.ensures.items) (has-pushed-last c.args.node c.args.moved.now.items) in
     both-ok c.add_children.result (λ children adds. looked.steady c.args.node steady.old steady.new (adds.still c.args.node pushed) steady.before steady.after steady.steady children) c.add_children.ensures.looked
     c.add_children.ensures.adds
 
@@ -42,8 +42,8 @@ add_moved-returns-clause-adds t c =
     let ns = by.doc.now in
     let n = c.args.node in
     let xs = c.args.moved.now.items in
-    let pushed = subst (Has n) (sym c.in_ok-push.ensures.items) (has-pushed-last n xs) in
-    let first = subst (λ (ys : List ℕ). Adds ns xs ys (λ m. m ≡ n)) (sym c.in_ok-push.ensures.items) (adds-one ns xs n c.requires.element) in
+    let pushed = subst (Has n) (sym {A = List ℕ} c.in_ok-push.ensures.items) (has-pushed-last n xs) in
+    let first = subst (λ (ys : List ℕ). Adds ns xs ys (λ m. m ≡ n)) (sym {A = List ℕ} c.in_ok-push.ensures.items) (adds-one ns xs n c.requires.element) in
     on_ok_weaker c.add_children.result (λ adds.
     adds-then ns xs c.push.new.self.items c.add_children.new.moved.items (λ m. m ≡ n) (λ m. Has m (element_children ns n)) first adds
     (λ m h. inr (n, (child-up ns (sound by.set.now ns by.state.now c.requires.whole) n m h).0, pushed))) c.add_children.ensures.adds

@@ -1,9 +1,7 @@
-use Rattle.std.proofs.Common.{◌≡◌, ◌+◌, ℕ, sym, arith}
+use Rattle.std.proofs.Common.{◌≡◌, arith}
 use Rattle.std.proofs.lemmas.Option.{slice_get_past}
-use Rattle.compiled_schema.specs.Usable.{set_of}
 use Rattle.doc_nodes.specs.Nodes.{Has, element_children}
 use Rattle.child_lists.proofs.from_kept_forgetting.Placed.{has-at}
-use Rattle.child_lists.specs.from_kept_records.Fit.{models_of, model_at}
 use Rattle.kept_slots.specs.Slots.{at}
 use Rattle.kept_targets.specs.Moved.{marks}
 use Rattle.kept_targets.proofs.Adding.{adds-same, adds-then, child-root, child-there}

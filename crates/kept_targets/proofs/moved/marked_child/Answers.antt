@@ -1,4 +1,4 @@
-use Rattle.std.proofs.Common.{◌≡◌, Some, None, sym}
+use Rattle.std.proofs.Common.{Some, None, sym}
 use Rattle.compiled_schema.specs.Usable.{set_of}
 use Rattle.child_lists.specs.from_kept_records.Fit.{models_of, model_at, symbols_at}
 use Rattle.child_lists.specs.from_kept_records.Slots.{kept_at}

@@ -1,6 +1,5 @@
-use Rattle.std.proofs.Common.{◌≡◌, ◌∷◌, [], ℕ, List, Option, None, Some, refl, sym, ap, ◌∙◌, subst, drop}
+use Rattle.std.proofs.Common.{ℕ, sym, subst, drop}
 use Rattle.path_walk.specs.Sight.{AreNamed}
-use Rattle.identity_constraints.specs.Seen.{KeyForest}
 use Rattle.child_lists.specs.from_kept_records.Books.{KeptView}
 use Rattle.kept_targets.specs.Kept.{IsFrom}
 use Rattle.kept_targets.specs.Seen.{elements_under, seen_to}
