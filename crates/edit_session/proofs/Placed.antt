@@ -1,5 +1,5 @@
 -- A place among the children of an element, by what is kept of these.
-use Rattle.std.proofs.Common.{◌≡◌, ℕ, zero, suc, ◌+◌, ◌<◌, ◌≤◌, List, [], ◌∷◌, Bool, true, false, cond, nat_lt, Option, None, Some, Result, Ok, Err, length, map, take, drop, refl, sym, ap, ◌∙◌, subst, arith}
+use Rattle.std.proofs.Common.{◌≡◌, ℕ, zero, suc, ◌<◌, ◌≤◌, List, [], ◌∷◌, Bool, true, false, cond, nat_lt, Option, None, Some, Err, length, map, take, drop, refl, sym, ap, ◌∙◌, subst, arith}
 use Rattle.std.specs.Prelude.{filter, unwrap_or, if◌then◌else◌}
 use Rattle.std.proofs.lemmas.Bool.{lt-ltb, le-ltb}
 use Rattle.tree_rows.specs.declared.name.Expanded.{Expanded}
@@ -8,15 +8,13 @@ use Rattle.tree_rows.specs.declared.row.Binding.{Binding}
 use Rattle.model_terms.specs.Symbols.{child_symbols}
 use Rattle.std.specs.Option.{option_map, option_and_then}
 use Rattle.std.proofs.lemmas.List.{length-map}
-use Rattle.std.proofs.lemmas.Option.{same_Some, none-some}
 use Rattle.xs_names.specs.Names.{NameTable, IsSound}
-use Rattle.xs_components.specs.declared.common.TypeId.{TypeId}
-use Rattle.tree_rows.specs.Forest.{Forest, none, text, element, Document}
+use Rattle.tree_rows.specs.Forest.{Forest, none, text, element}
 use Rattle.tree_rows.specs.Kinds.{kind_of}
 use Rattle.tree_rows.specs.declared.row.NodeKind.{NodeKind}
 use Rattle.tree_rows.specs.declared.row.NodeKind.TheVariants as kinds
 use Rattle.plain_tree.specs.Numbers.{name_in}
-use Rattle.tree_edits.specs.Edits.{Found, found, width}
+use Rattle.tree_edits.specs.Edits.{width}
 use Rattle.content_automaton.specs.Symbols.{symbol_of}
 use Rattle.content_automaton.specs.Terms.{ExpandedName, name_at}
 use Rattle.content_models.specs.Built.{symbols_of}
@@ -24,41 +22,37 @@ use Rattle.content_models.specs.declared.automaton.ContentAutomaton.{ContentAuto
 use Rattle.assessment.specs.Attribution.{SchemaSet, content_particle}
 use Rattle.assessment.specs.Assessment.{Entry}
 use Rattle.assessment.specs.Fitting.{Fits, IsAutomatonFor}
-use Rattle.assessment.specs.Local.{HasElement}
 use Rattle.compiled_schema.specs.Usable.{set_of}
 use Rattle.compiled_schema.specs.declared.compiled.Compiled.{Compiled}
 use Rattle.tree_assess.specs.Entries.{entry_of}
 use Rattle.model_lists.specs.Lists.{ListsView, IsListOf}
 use Rattle.model_lists.specs.declared.handle.ModelList.{ModelList}
-use Rattle.session_model.specs.Asking as asking
 use Rattle.session_model.specs.State.{State}
-use Rattle.doc_nodes.specs.Nodes.{Node, Nodes, node, IsNode, is_element, is_element_by, is_element_at, children_by, element_children}
+use Rattle.doc_nodes.specs.Nodes.{Nodes, node, is_element, is_element_by, is_element_at, children_by, element_children}
 use Rattle.doc_changes.specs.Held.{kind_in, kind_at}
 use Rattle.doc_changes.specs.Held as held
 use Rattle.doc_changes.specs.Stands.{firsts, IsText, IsElement, StandFor, StandsFor}
-use Rattle.doc_changes.proofs.Holding.{IsElementOf, element_of, holds_element}
+use Rattle.doc_changes.proofs.Holding.{element_of, holds_element}
 use Rattle.doc_changes.specs.Readers as readers
 use Rattle.doc_changes.proofs.Named.{name_back}
 use Rattle.doc_tree.proofs.Answering.{kind_is}
 use Rattle.doc_edits.proofs.Placing.{width_firsts}
-use Rattle.kept_slots.specs.Slots.{at}
 use Rattle.kept_records.specs.declared.element.KeptElement.{KeptElement}
 use Rattle.kept_records.specs.Slots.{IsMade, blank, kept_at, pair_at}
-use Rattle.kept_records.specs.Fit.{models_of, IsListed, model_at, symbols_at}
+use Rattle.kept_records.specs.Fit.{models_of, IsListed, symbols_at}
 use Rattle.kept_records.proofs.Made.{fit-at, made-elements}
 use Rattle.kept_records.proofs.Modelled.{type-fits}
 use Rattle.kept_records.proofs.Nodes.{has-element}
 use Rattle.kept_inverses.specs.from_kept_state.KeptState.{KeptState}
-use Rattle.kept_next.specs.Answers.{PlaceQuestion}
 use Rattle.kept_next.specs.Place.{ListPlace, IsListBy, IsPlaceBy, children_in}
 use Rattle.kept_next.specs.Spaces.{HasSpacesNamed}
 use Rattle.kept_next.proofs.Places.{children-many}
-use Rattle.edit_session.specs.Around.{IsPlaced, IsAroundAt, asked_at, asked_by, asked_of, type_at, children_at, children_by as found_children, sibling_names, names_before, names_behind}
-use Rattle.edit_session.specs.Held.{document_in, found_by, IsPresent, state_by}
+use Rattle.edit_session.specs.Around.{IsAroundAt, asked_at, asked_by, asked_of, type_at, children_at, children_by as found_children, sibling_names, names_before, names_behind}
+use Rattle.edit_session.specs.Held.{document_in, IsPresent, state_by}
 use Rattle.edit_session.specs.declared.around.AroundError.{AroundError}
 use Rattle.edit_session.specs.declared.around.AroundError.TheVariants as errors
 use Rattle.kept_records.proofs.Kept.{entry-is}
-use Rattle.edit_session.proofs.Standing.{stands-now, settled}
+use Rattle.edit_session.proofs.Standing.{settled}
 
 -- ---- the names of child elements
 

@@ -1,5 +1,5 @@
 -- What is asked of a place among the children of an element: which names may stand there.
-use Rattle.std.specs.Prelude.{◌≡◌, ◌≢◌, ◌≤◌, ℕ, zero, suc, List, [], ◌∷◌, ◌++◌, length, nat_lt, take, drop, Option, None, Some, Result, Ok, Err, codes, if◌then◌else◌}
+use Rattle.std.specs.Prelude.{◌≡◌, ◌≤◌, ℕ, zero, suc, List, [], ◌∷◌, length, nat_lt, take, drop, Option, None, Some, Result, Ok, Err, codes, if◌then◌else◌}
 use Rattle.std.specs.Option.{option_and_then}
 use Rattle.xs_names.specs.Names.{NameTable}
 use Rattle.xs_components.specs.declared.common.TypeId.{TypeId}

@@ -1,14 +1,13 @@
 -- What is counted of targets stays right as codes alone are written.
-use Rattle.std.proofs.Common.{◌≡◌, ℕ, List, Option, None, Some, refl, sym, ap, ◌∙◌, subst}
+use Rattle.std.proofs.Common.{◌≡◌, ℕ, Option, None, Some, refl, sym, ap, ◌∙◌, subst}
 use Rattle.std.specs.Prelude.{unwrap_or}
 use Rattle.std.specs.Option.{option_map}
 use Rattle.std.proofs.lemmas.Option.{none-some}
 use Rattle.simple_types.proofs.Valid.{one-outcome}
-use Rattle.identity_constraints.specs.Seen.{KeyElement, KeyForest}
+use Rattle.identity_constraints.specs.Seen.{KeyElement}
 use Rattle.what_is_found.specs.Identity.{seen_element}
 use Rattle.scope_targets.specs.Kin.{Kin, AreAbove, AreSeen}
 use Rattle.scope_targets.specs.Targetings.{targetings_of}
-use Rattle.scope_targets.specs.Kept.{targets_of}
 use Rattle.compiled_schema.specs.Usable.{set_of}
 use Rattle.compiled_schema.specs.declared.compiled.Compiled.{Compiled}
 use Rattle.doc_nodes.specs.Nodes.{Nodes, element_children}
@@ -17,7 +16,7 @@ use Rattle.doc_changes.specs.Readers.{name_at}
 use Rattle.tree_assess.specs.Entries.{entry_of}
 use Rattle.kept_slots.specs.Slots.{at}
 use Rattle.kept_above.specs.from_kept_records.KeptElement.{KeptElement}
-use Rattle.kept_above.specs.from_kept_records.Slots.{IsMade, blank, entry_at, kept_at, pair_at}
+use Rattle.kept_above.specs.from_kept_records.Slots.{IsMade, blank, entry_at}
 use Rattle.kept_above.specs.from_kept_records.Fit.{models_of}
 use Rattle.kept_above.specs.from_kept_state.KeptState.{KeptState}
 use Rattle.kept_targets.specs.Kept.{AreTargets, kin_of, sign_at, sign_of}

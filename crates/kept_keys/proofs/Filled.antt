@@ -1,5 +1,5 @@
 -- What is counted of the targets that are kept by number is right at each element of the document.
-use Rattle.std.proofs.Common.{◌≡◌, ◌≢◌, ◌⊎◌, ◌+◌, ◌≤◌, ◌==◌, ℕ, List, [], ◌∷◌, cond, Bool, true, false, Option, None, Some, refl, sym, ap, ◌∙◌, subst, inl, inr, arith, true≢false}
+use Rattle.std.proofs.Common.{◌≡◌, ◌+◌, ◌≤◌, ◌==◌, ℕ, List, [], ◌∷◌, cond, Bool, true, false, Option, None, Some, refl, sym, ap, ◌∙◌, subst, inl, inr, arith, true≢false}
 use Rattle.std.specs.Prelude.{filter}
 use Rattle.std.specs.Option.{option_and_then}
 use Rattle.std.proofs.lemmas.Bool.{eq-eqb}
@@ -17,14 +17,14 @@ use Rattle.identity_constraints.specs.Counting.{Has as KeyHas, Lacks as KeyLacks
 use Rattle.identity_constraints.specs.Counting as numbers
 use Rattle.what_is_found.specs.Identity.{seen, seen_element}
 use Rattle.key_records.specs.Views.{AreCounted}
-use Rattle.key_records.specs.Counted.{Counted, Feature, has, own_tuples, with_keys}
+use Rattle.key_records.specs.Counted.{Feature, has, own_tuples, with_keys}
 use Rattle.key_records.specs.Faults.{weight}
 use Rattle.key_records.specs.Records.{AreRecords}
 use Rattle.key_records.specs.declared.records.KeyTree.{KeyTree}
 use Rattle.key_records.specs.declared.references.References.{References}
 use Rattle.scope_targets.specs.Kin.{AreAbove, AreSeen, Kin}
 use Rattle.scope_targets.specs.Targetings.{HasWithin, targetings_of, uses}
-use Rattle.scope_targets.specs.Counted.{AreTargetsAlong, AreTargetsOf, TargetSlots, counted_all, targets_at}
+use Rattle.scope_targets.specs.Counted.{AreTargetsAlong, AreTargetsOf, counted_all, targets_at}
 use Rattle.scope_targets.specs.Counted as counted
 use Rattle.scope_targets.specs.Kept.{DifferUnseen, parent_of}
 use Rattle.scope_targets.specs.Linked.{links_by}
@@ -32,7 +32,7 @@ use Rattle.forest_keys.specs.inside.Found.{count_in}
 use Rattle.forest_keys.specs.inside.Records.{AreFilledAt}
 use Rattle.forest_keys.proofs.Counts.{keys-counted}
 use Rattle.compiled_schema.specs.declared.compiled.Compiled.{Compiled}
-use Rattle.doc_nodes.specs.Nodes.{Node, Nodes, node, IsNode, Has, Lacks, Distinct, children_by, depth_by, is_element_at, element_children}
+use Rattle.doc_nodes.specs.Nodes.{Node, Nodes, node, Has, Lacks, Distinct, children_by, is_element_at, element_children}
 use Rattle.doc_changes.specs.Held.{parent_at}
 use Rattle.kept_slots.specs.Slots.{at}
 use Rattle.kept_above.specs.from_kept_records.KeptElement.{KeptElement}

@@ -1,9 +1,7 @@
 -- What identity constraints see of what is kept has names of the table, so names that are added are no matter.
-use Rattle.std.proofs.Common.{◌≡◌, ◌<◌, ℕ, List, [], ◌∷◌, ◌++◌, ◌==◌, Bool, if◌then◌else◌, All, Option, None, Some, true, length, refl, sym, ap, ◌∙◌, subst, inl, inr}
+use Rattle.std.proofs.Common.{◌≡◌, ◌<◌, ℕ, List, [], ◌∷◌, ◌++◌, ◌==◌, if◌then◌else◌, Option, None, Some, true, length, refl, sym, ◌∙◌, subst, inl, inr}
 use Rattle.std.proofs.lemmas.List.Elements.{All-nil, All-cons}
-use Rattle.std.proofs.lemmas.Option.{same_Some}
-use Rattle.xs_names.specs.Names.{Grown, NameTable}
-use Rattle.xs_codes.specs.declared.fault.Found.{Found}
+use Rattle.xs_names.specs.Names.{NameTable}
 use Rattle.xs_components.specs.Tables.{Tables}
 use Rattle.xpath_subset.specs.declared.paths.IdentityPaths.{IdentityPaths}
 use Rattle.identity_constraints.specs.Seen.{KeyElement, KeyForest, none, element}
@@ -18,13 +16,12 @@ use Rattle.compiled_schema.specs.declared.compiled.Compiled.{Compiled}
 use Rattle.doc_nodes.specs.Nodes.{Nodes, Has, is_element_at, element_children}
 use Rattle.doc_changes.specs.Held.{parent_at}
 use Rattle.kept_above.specs.from_kept_records.Found.{IsOver, SaysFound, found_in}
-use Rattle.kept_above.specs.from_kept_records.Slots.{IsMade}
 use Rattle.kept_above.specs.from_kept_state.KeptState.{KeptState}
 use Rattle.kept_targets.specs.Kept.{AreTargets, kin_of}
 use Rattle.kept_targets.specs.Seen.{seen_to}
 use Rattle.kept_targets.specs.declared.keys.TargetKeys.{TargetKeys}
 use Rattle.kept_targets.proofs.Links.{child-up}
-use Rattle.kept_targets.proofs.Looking.{above-there, element-of, made-of, sound}
+use Rattle.kept_targets.proofs.Looking.{above-there, made-of, sound}
 use Rattle.kept_targets.proofs.Named.{down-named, named-at}
 use Rattle.kept_keys.specs.Keys.{IsWhole}
 use Rattle.kept_keys.proofs.Whole.{siblings-seen}

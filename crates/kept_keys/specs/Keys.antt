@@ -1,5 +1,5 @@
 -- The codes of identity constraints over what is kept, and what is left as it is where they are made right.
-use Rattle.std.specs.Prelude.{◌≡◌, ◌≢◌, ◌↔◌, ℕ, List, []}
+use Rattle.std.specs.Prelude.{◌≡◌, ◌≢◌, ◌↔◌, ℕ, List}
 use Rattle.xs_codes.specs.declared.fault.Found.{Found}
 use Rattle.identity_constraints.specs.Seen.{KeyForest}
 use Rattle.identity_constraints.specs.Satisfied.{identity_at}

@@ -1,4 +1,4 @@
-use Rattle.std.proofs.Common.{Err, refl, sym, ap, ◌∙◌}
+use Rattle.std.proofs.Common.{Err, sym, ap, ◌∙◌}
 use Rattle.compiled_schema.specs.Usable.{set_of}
 use Rattle.kept_records.specs.Fit.{models_of, symbols_at}
 use Rattle.edit_session.proofs.Placed.{made, listed, no-model, asks, around-so}
