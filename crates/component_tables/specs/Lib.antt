@@ -1,5 +1,6 @@
 pub mod Symbols
 pub mod Named
+pub mod Bases
 pub mod Types
 pub mod Found
 pub mod ContentTypes

@@ -1,11 +1,12 @@
 -- The types of element declarations, and the declarations that element terms give to names.
-use Rattle.std.specs.Prelude.{◌≡◌, ℕ, suc, ◌<◌, ◌==◌, ◌&&◌, Bool, false, List, [], ◌∷◌, Option, None, Some, length, slice_get, slice_index, slice_index_or, unwrap_or, if◌then◌else◌}
+use Rattle.std.specs.Prelude.{◌≡◌, ℕ, suc, ◌==◌, ◌&&◌, Bool, false, List, [], ◌∷◌, Option, None, Some, length, slice_get, slice_index, slice_index_or, unwrap_or, if◌then◌else◌}
 use Rattle.std.specs.Option.{option_or}
 use Rattle.xs_components.specs.Tables.{Tables}
 use Rattle.xs_components.specs.declared.element.ElementDecl.{ElementDecl}
 use Rattle.xs_components.specs.declared.common.TypeId.{TypeId}
 use Rattle.xs_components.specs.declared.common.TypeId.TheVariants.{AnyType}
 use Rattle.component_references.specs.Descent.{along}
+use Rattle.component_tables.specs.Bases.{BaseTable, AreLinesOf}
 
 module _ (type : ℕ → TypeId) where
   abbrev pub head_type : Option ℕ → TypeId
@@ -52,17 +53,19 @@ abbrev pub given_declaration : Tables → ℕ → ℕ → ℕ
 given_declaration t element name =
     if has_name (slice_get t.elements.parts element) name then element else unwrap_or (global_of t name) element
 
--- types by the numbers of declarations, and declarations at the top by the numbers of their names
+-- types by the numbers of declarations, declarations at the top by the numbers of their names, and types along their bases
 pub record DeclarationTable : Type 0 where
   pub types : List TypeId
   pub globals : List (Option ℕ)
+  pub bases : BaseTable
 
 -- the type in the place of a number
 abbrev pub known : List TypeId → ℕ → TypeId
 known types element = slice_index_or types element AnyType
 
--- these are the types of all element declarations of the tables, and those that stand at the top
+-- these are the types of all element declarations of the tables, those that stand at the top, and all types along their bases
 pub record AreDeclarationsOf (t : Tables) (d : DeclarationTable) : Type 0 where
   pub each : length d.types ≡ length t.elements.parts
   pub types : (element : ℕ) → known d.types element ≡ type_of t element
   pub globals : (name : ℕ) → slice_index_or d.globals name None ≡ global_of t name
+  pub bases : AreLinesOf t d.bases

@@ -6,6 +6,7 @@ ghost use Rattle.component_references.specs.Ranked.{IsRanked};
 ghost use Rattle.component_tables.specs.Found.{AreTypesOf};
 ghost use Rattle.component_tables.specs.Types.{own_type, known, has_name, type_of, global_of, given_declaration, AreDeclarationsOf};
 
+use crate::bases::BaseLines;
 use crate::globals::{find_globals, global_at};
 use component_references::{Rule, fill, order_of};
 use std::alloc::{AllocError, Global};
@@ -13,11 +14,13 @@ use std::marker::Model;
 use xs_components::{Components, ElementId, TypeId};
 use xs_names::NameId;
 
-/// The types of all element declarations of a schema set, and the declarations at the top of its documents by their names.
+/// The types of all element declarations of a schema set, the declarations at the top of its documents by their names, and all types
+/// along their bases.
 #[derive(Drop)]
 pub struct Declarations {
     types: Vec<TypeId>,
     globals: Vec<Option<ElementId>>,
+    bases: BaseLines,
 }
 
 impl Model for Declarations {
@@ -26,18 +29,23 @@ impl Model for Declarations {
 
     ghost Value = { DeclarationTable };
 
-    ghost view = { λ d. record { types = d.types.items; globals = d.globals.items } };
+    ghost view = { λ d. record { types = d.types.items; globals = d.globals.items; bases = d.bases } };
 }
 
 impl Declarations {
-    /// Finds both, the type of each declaration once.
+    /// Finds all, the type of each declaration once.
     pub fn of(alloc: Global, parts: &Components) -> Result<Declarations, AllocError>
         requires ranked { IsRanked parts.now }
         ensures declarations { IfOk result (AreDeclarationsOf parts.now) }
     {
         let types = find_types(alloc, parts)?;
         let globals = find_globals(alloc, parts)?;
-        Ok(Declarations { types, globals })
+        let bases = BaseLines::of(alloc, parts)?;
+        Ok(Declarations {
+            types,
+            globals,
+            bases,
+        })
     }
 
     /// The type of an element declaration (Structures 3.3.2): its own, else that of its head, else anyType.
@@ -48,6 +56,13 @@ impl Declarations {
             Some(of) => *of,
             None => TypeId::AnyType,
         }
+    }
+
+    /// All types along their bases.
+    pub fn bases(&self) -> &BaseLines
+        ensures { result.now ≡ self.now.bases }
+    {
+        &self.bases
     }
 
     /// The element declaration at the top of a schema document with this name, if there is one.

@@ -1,5 +1,5 @@
 -- A row of cells, one symbol after another, with the sets of the symbols that are left.
-use Rattle.std.proofs.Common.{◌≡◌, ℕ, ◌+◌, ◌-◌, ◌*◌, ◌<◌, ◌≤◌, ◌↔◌, ◌==◌, List, [], ◌∷◌, ◌++◌, length, map, get_or, refl, ap, subst, ◌∙◌, arith}
+use Rattle.std.proofs.Common.{◌≡◌, ℕ, suc, ◌+◌, ◌-◌, ◌*◌, ◌<◌, ◌≤◌, ◌↔◌, ◌==◌, List, [], ◌∷◌, ◌++◌, length, map, get_or, drop, refl, sym, ap, subst, ◌∙◌, arith, add-one, drop-cons}
 use Rattle.std.specs.Prelude.{Contains, filter}
 use Rattle.std.specs.List.Sorted.{IsStrictlyIncreasing}
 use Rattle.xs_positions.specs.Positions.{Table}
@@ -7,6 +7,10 @@ use Rattle.content_automaton.specs.Moves.{IsWithin, takes, Comes}
 use Rattle.content_automaton.specs.Built.{IsNew, IsNumbered, AreStates, AreTooMany, AreSteps, IsRow}
 use Rattle.content_automaton.proofs.Building.{row_begun, row_done, turn_too_many, turn_more}
 use Rattle.content_automaton.proofs.Putting.{AreLeft, left_head, left_tail}
+
+-- the sets that are left, one after another
+pub left_here : {X : Type 0} (all : List X) (i : ℕ) (x : X) → i < length all → x ≡ get_or all i x → drop i all ≡ x ∷ drop (i + 1) all
+left_here all i x l is = rw add-one (drop-cons all i x l ∙ ap (λ y. y ∷ drop (suc i) all) (sym is))
 
 -- the symbol whose set comes next
 abbrev pub symbol_next : {Y : Type 0} → ℕ → List Y → ℕ

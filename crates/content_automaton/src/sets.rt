@@ -57,30 +57,48 @@ fn marked(alloc: Global, flags: &[bool]) -> Result<Vec<u32>, AllocError>
     Ok(numbers)
 }
 
-/// For each symbol the positions of the set whose terms accept it.
-pub(crate) fn by_symbol(
-    alloc: Global,
-    form: &Unrolled,
-    accepted: &[Listed<u32>],
-    symbols: u32,
-    set: &[u32],
-) -> Result<Vec<Vec<u32>>, AllocError>
-    requires set { All (λ p. p < length form.now.table.symbols) set.now }
-    requires rises { All IsStrictlyIncreasing accepted.now }
-    requires below { All (All (λ n. n < symbols)) accepted.now }
-    ensures sets { IfOk result (λ sets. (n : ℕ) → n < symbols → slice_index_or (map (λ set. set.items) sets.items) n [] ≡ filter (λ p. takes form.now.table accepted.now p n) set.now) }
-    ensures count { IfOk result (λ sets. length sets.items ≡ symbols) }
+/// A set of no positions for each symbol.
+pub(crate) fn no_sets(alloc: Global, symbols: u32) -> Result<Vec<Vec<u32>>, AllocError>
+    ensures { IfOk result (λ sets. length sets.items ≡ symbols) }
 {
     let mut sets = Vec::new(alloc);
     for _ in 0..symbols {
         sets.push(Vec::new(alloc))?;
     }
+    Ok(sets)
+}
+
+/// Makes each set empty. It keeps its memory.
+fn clear_all(sets: &mut Vec<Vec<u32>>)
+    ensures empty { (n : ℕ) → slice_index_or (map (λ set. set.items) sets.new.items) n [] ≡ [] }
+    ensures count { length sets.new.items ≡ length sets.old.items }
+{
+    for n in 0..sets.len() {
+        sets[n].clear();
+    }
+}
+
+/// Makes the sets, one for each symbol, those of the positions of a set whose terms accept it. They keep the memory of what they
+/// had.
+pub(crate) fn sort_out(
+    form: &Unrolled,
+    accepted: &[Listed<u32>],
+    set: &[u32],
+    sets: &mut Vec<Vec<u32>>,
+) -> Result<(), AllocError>
+    requires set { All (λ p. p < length form.now.table.symbols) set.now }
+    requires rises { All IsStrictlyIncreasing accepted.now }
+    requires below { All (All (λ n. n < length sets.old.items)) accepted.now }
+    ensures sets { OnOk result ((n : ℕ) → n < length sets.old.items → slice_index_or (map (λ set. set.items) sets.new.items) n [] ≡ filter (λ p. takes form.now.table accepted.now p n) set.now) }
+    ensures count { OnOk result (length sets.new.items ≡ length sets.old.items) }
+{
+    clear_all(sets);
     for p in set {
         if let Some(row) = accepted.get(form.term_of(*p) as usize) {
-            put_at(&mut sets, row.as_slice(), *p)?;
+            put_at(sets, row.as_slice(), *p)?;
         }
     }
-    Ok(sets)
+    Ok(())
 }
 
 /// Puts the position into the sets of these symbols.

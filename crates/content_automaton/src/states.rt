@@ -7,7 +7,7 @@ ghost use Rattle.content_automaton.specs.Built.{AreStates, AreTooMany, AreSteps}
 ghost use Rattle.content_automaton.specs.Outcome.{WhereTooMany};
 
 use crate::numbers::number_in;
-use crate::sets::{by_symbol, coming};
+use crate::sets::{coming, no_sets, sort_out};
 use crate::stop::Stop;
 use indexmap::IndexSet;
 use particle_models::Unrolled;
@@ -39,6 +39,7 @@ pub(crate) fn find_states(
 {
     let mut states = IndexSet::new(alloc);
     states.insert(Vec::new(alloc))?;
+    let mut sets = no_sets(alloc, symbols)?;
     let mut cells = Vec::new(alloc);
     let mut state = 0;
     while state < states.len() {
@@ -47,6 +48,7 @@ pub(crate) fn find_states(
             form,
             accepted,
             symbols,
+            &mut sets,
             &mut states,
             &mut cells,
             state,
@@ -56,12 +58,13 @@ pub(crate) fn find_states(
     Ok(Found { states, cells })
 }
 
-/// Adds the steps from a state, and the states that they lead to.
+/// Adds the steps from a state, and the states that they lead to. The sets, one for each symbol, lend their memory.
 fn add_row(
     alloc: Global,
     form: &Unrolled,
     accepted: &[Listed<u32>],
     symbols: u32,
+    sets: &mut Vec<Vec<u32>>,
     states: &mut IndexSet<Vec<u32>>,
     cells: &mut Vec<u16>,
     state: usize,
@@ -69,11 +72,13 @@ fn add_row(
     requires within { IsWithin form.now.table }
     requires rises { All IsStrictlyIncreasing accepted.now }
     requires below { All (All (λ n. n < symbols)) accepted.now }
+    requires sets { length sets.old.items ≡ symbols }
     requires states { AreStates form.now.table accepted.now symbols (map (λ state. state.items) states.old.keys) }
     requires few { length states.old.keys ≤ 2048 }
     requires state { state < length states.old.keys }
     requires steps { AreSteps form.now.table accepted.now symbols (map (λ state. state.items) states.old.keys) cells.old.items }
     requires cells { length cells.old.items ≡ state * symbols }
+    ensures sets { OnOk result (length sets.new.items ≡ symbols) }
     ensures states { OnOk result (AreStates form.now.table accepted.now symbols (map (λ state. state.items) states.new.keys)) }
     ensures few { OnOk result (length states.new.keys ≤ 2048) }
     ensures more { OnOk result (length states.old.keys ≤ length states.new.keys) }
@@ -82,8 +87,9 @@ fn add_row(
     ensures too_many { IfErr result (λ stop. WhereTooMany stop (AreTooMany form.now.table accepted.now symbols)) }
 {
     let next = coming(alloc, form, &states.as_slice()[state], state == 0)?;
-    let sets = by_symbol(alloc, form, accepted, symbols, &next)?;
-    for set in sets {
+    sort_out(form, accepted, &next, sets)?;
+    let all = sets.as_slice();
+    for set in all {
         match number_in(states, set) {
             Ok(to) => cells.push(to)?,
             Err(stop) => return Err(stop),

@@ -47,7 +47,8 @@ fn is_derived(
 {
     let base = declarations.type_of(head);
     let sub = declarations.type_of(element);
-    derives(alloc, parts, sub, base, &parts.element(head).finals)
+    let excluded = &parts.element(head).finals;
+    derives(alloc, parts, declarations.bases(), sub, base, excluded)
 }
 
 // The fault of a declaration, if its type is excluded by its head.

@@ -14,6 +14,7 @@ use Rattle.simple_types.specs.Trees.{type_tree}
 use Rattle.simple_types.specs.SimpleTypes.{AreTypesOf, AreWhole, IsSimpleTree}
 use Rattle.simple_types.specs.declared.types.SimpleTypes.{SimpleTypes}
 use Rattle.attr_uses.specs.Tables.{AreTablesOf}
+use Rattle.component_tables.specs.Bases.{AreLinesOf}
 use Rattle.component_tables.specs.ContentTypes.{AreContentsOf}
 use Rattle.particle_forms.specs.Ranges.{AreRangesOf}
 use Rattle.derive_restriction.specs.declared.set.ComparedSet.{ComparedSet}
@@ -47,3 +48,4 @@ pub record AreKnown (set : ComparedSet) : Type 0 where
   pub tables : (ids : List Bool) × AreTablesOf set.parts.now ids set.tables.now
   pub contents : AreContentsOf set.parts.now set.contents.now
   pub ranges : AreRangesOf set.parts.now set.ranges.now
+  pub bases : AreLinesOf set.parts.now set.bases.now

@@ -5,6 +5,7 @@ ghost use Rattle.xs_components.specs.declared.common.TypeId.{TypeId as TypeIdVal
 ghost use Rattle.xs_components.specs.declared.complex.ContentForm.TheVariants as forms;
 ghost use Rattle.xs_components.specs.declared.simple.FacetItem.{FacetItem};
 ghost use Rattle.component_references.specs.Heights.{IsType};
+ghost use Rattle.component_tables.specs.Bases.{AreLinesOf};
 ghost use Rattle.component_tables.specs.ContentTypes.{AreContentsOf, content_of};
 ghost use Rattle.particle_forms.specs.Ranges.{AreRangesOf};
 ghost use Rattle.derive_faults.specs.TypeFaults.{IsFirstCode};
@@ -72,12 +73,13 @@ fn simple_code(
     base: &TypeId,
 ) -> Result<Option<Code>, AllocError>
     requires given { AreGiven set.now.parts.now set.now.names.now }
+    requires bases { AreLinesOf set.now.parts.now set.now.bases.now }
     requires ranges { AreRangesOf set.now.parts.now set.now.ranges.now }
     requires own { IfSome own (IsType set.now.parts.now) }
     requires base { IsType set.now.parts.now base.now }
     ensures first { IfOk result (IsFirstCode (spec.BreaksSimple set.now.parts.now base.now content own)) }
 {
-    let derived = is_text_derived(alloc, set.parts, own, *base)?;
+    let derived = is_text_derived(alloc, set.parts, set.bases, own, *base)?;
     let emptiable = has_emptiable_model(set.parts, set.ranges, base);
     let other = is_other(content, derived, emptiable);
     Ok(when(other, Code::DerivationOkRestriction5_2))
@@ -90,6 +92,7 @@ pub(crate) fn content_code(
     part: &ComplexType,
 ) -> Result<Option<Code>, AllocError>
     requires given { AreGiven set.now.parts.now set.now.names.now }
+    requires bases { AreLinesOf set.now.parts.now set.now.bases.now }
     requires ranges { AreRangesOf set.now.parts.now set.now.ranges.now }
     requires contents { AreContentsOf set.now.parts.now set.now.contents.now }
     requires base { IsType set.now.parts.now part.now.base }

@@ -51,6 +51,7 @@ fn comparison_fault(
         tables: set.tables,
         contents: set.contents,
         ranges: &ranges,
+        bases: set.declarations.bases(),
     };
     first_of_both(alloc, &compared, set.redefined, types)
 }

@@ -1,6 +1,7 @@
 //! The first redefining attribute group that is no restriction of what it redefines.
 
 ghost use Rattle.std.specs.Prelude.{◌≡◌, ◌<◌, List, Bool, IfOk, length};
+ghost use Rattle.component_tables.specs.Bases.{AreLinesOf};
 ghost use Rattle.xs_codes.specs.Least.{IsLeast};
 ghost use Rattle.attr_uses.specs.Tables.{AreTablesOf};
 ghost use Rattle.derive_restriction.specs.Given.{AreGiven, AreTypes};
@@ -32,6 +33,7 @@ pub fn first_attr_group_fault(
     pairs: &[RedefinedPair],
 ) -> Result<Option<Fault>, AllocError>
     requires given { AreGiven set.now.parts.now set.now.names.now }
+    requires bases { AreLinesOf set.now.parts.now set.now.bases.now }
     requires types { AreTypes set.now.parts.now types.old }
     requires tables { (ids : List Bool) × AreTablesOf set.now.parts.now ids set.now.tables.now }
     ensures least { IfOk result (IsLeast (spec.IsAttrGroupFault set.now.parts.now set.now.names.now pairs.now)) }
@@ -53,6 +55,7 @@ fn fault_of(
     pair: &RedefinedPair,
 ) -> Result<Option<Fault>, AllocError>
     requires given { AreGiven set.now.parts.now set.now.names.now }
+    requires bases { AreLinesOf set.now.parts.now set.now.bases.now }
     requires types { AreTypes set.now.parts.now types.old }
     requires tables { (ids : List Bool) × AreTablesOf set.now.parts.now ids set.now.tables.now }
     ensures least { IfOk result (IsLeast (spec.IsPairFault set.now.parts.now set.now.names.now pair.now)) }
@@ -77,6 +80,7 @@ fn pair_code(
     original: AttrGroupId,
 ) -> Result<Option<Code>, AllocError>
     requires given { AreGiven set.now.parts.now set.now.names.now }
+    requires bases { AreLinesOf set.now.parts.now set.now.bases.now }
     requires types { AreTypes set.now.parts.now types.old }
     requires tables { (ids : List Bool) × AreTablesOf set.now.parts.now ids set.now.tables.now }
     requires own { own < length set.now.parts.now.attr_groups.parts }
@@ -97,6 +101,7 @@ fn broken_code(
     original: AttrGroupId,
 ) -> Result<Option<Code>, AllocError>
     requires given { AreGiven set.now.parts.now set.now.names.now }
+    requires bases { AreLinesOf set.now.parts.now set.now.bases.now }
     requires types { AreTypes set.now.parts.now types.old }
     requires tables { (ids : List Bool) × AreTablesOf set.now.parts.now ids set.now.tables.now }
     requires own { own < length set.now.parts.now.attr_groups.parts }

@@ -4,6 +4,7 @@ ghost use Rattle.std.specs.Prelude.{◌≡◌, ◌⊎◌, ◌<◌, List, Bool, t
 ghost use Rattle.xs_components.specs.declared.common.TypeId.TheVariants.{Complex};
 ghost use Rattle.xs_codes.specs.Least.{IsLeast};
 ghost use Rattle.component_references.specs.Heights.{IsType};
+ghost use Rattle.component_tables.specs.Bases.{AreLinesOf};
 ghost use Rattle.attr_uses.specs.Tables.{AreTablesOf, StandsFor, IsStore};
 ghost use Rattle.attr_uses.specs.Uses.{AttrUses, uses_of, any_type_uses};
 ghost use Rattle.component_tables.specs.ContentTypes.{AreContentsOf};
@@ -49,6 +50,7 @@ pub fn tables_code(
     base: KeptTable,
 ) -> Result<Option<Code>, AllocError>
     requires given { AreGiven set.now.parts.now set.now.names.now }
+    requires bases { AreLinesOf set.now.parts.now set.now.bases.now }
     requires types { AreTypes set.now.parts.now types.old }
     requires store { IsStore set.now.tables.now.store }
     requires tables { (ids : List Bool) × (value also : AttrUses) × StandsFor set.now.parts.now ids set.now.tables.now.store own value × StandsFor set.now.parts.now ids set.now.tables.now.store base also }
@@ -79,6 +81,7 @@ fn base_code(
     table: KeptTable,
 ) -> Result<Option<Code>, AllocError>
     requires given { AreGiven set.now.parts.now set.now.names.now }
+    requires bases { AreLinesOf set.now.parts.now set.now.bases.now }
     requires types { AreTypes set.now.parts.now types.old }
     requires store { IsStore set.now.tables.now.store }
     requires tables { (ids : List Bool) × (value also : AttrUses) × StandsFor set.now.parts.now ids set.now.tables.now.store own value × StandsFor set.now.parts.now ids set.now.tables.now.store table also }
@@ -102,6 +105,7 @@ fn attributes_code(
     base: &TypeId,
 ) -> Result<Option<Code>, AllocError>
     requires given { AreGiven set.now.parts.now set.now.names.now }
+    requires bases { AreLinesOf set.now.parts.now set.now.bases.now }
     requires types { AreTypes set.now.parts.now types.old }
     requires tables { (ids : List Bool) × AreTablesOf set.now.parts.now ids set.now.tables.now }
     requires there { id < length set.now.parts.now.complexes.parts }

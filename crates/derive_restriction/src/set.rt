@@ -1,5 +1,5 @@
 use attr_uses::AttrTables;
-use component_tables::ContentTypes;
+use component_tables::{BaseLines, ContentTypes};
 use particle_forms::Ranges;
 use xs_components::Components;
 use xs_names::Names;
@@ -13,4 +13,5 @@ pub struct ComparedSet<'a> {
     pub tables: &'a AttrTables,
     pub contents: &'a ContentTypes,
     pub ranges: &'a Ranges,
+    pub bases: &'a BaseLines,
 }

@@ -3,11 +3,13 @@
 ghost use Rattle.std.specs.Prelude.{◌≡◌, ◌↔◌, IsTrue, IfOk, IfSome};
 ghost use Rattle.component_references.specs.Heights.{IsType};
 ghost use Rattle.component_references.specs.Ranked.{IsRanked};
+ghost use Rattle.component_tables.specs.Bases.{AreLinesOf};
 ghost use Rattle.type_derivation.specs.Within.{AreSimple};
 ghost use Rattle.derive_restriction.specs.Given.{AreOwnThere};
 ghost use Rattle.derive_restriction.specs.Contents as spec;
 
 use crate::types::{derives_type, derives_type_member};
+use component_tables::BaseLines;
 use std::alloc::{AllocError, Global};
 use xs_components::{ComplexType, Components, ContentForm, TypeId};
 
@@ -104,10 +106,12 @@ pub(crate) fn text_type(parts: &Components, of: TypeId) -> Option<TextType>
 fn derives_from(
     alloc: Global,
     parts: &Components,
+    bases: &BaseLines,
     own: TypeId,
     text: TextType,
 ) -> Result<bool, AllocError>
     requires ranked { IsRanked parts.now }
+    requires bases { AreLinesOf parts.now bases.now }
     requires simple { AreSimple parts.now }
     requires own { IsType parts.now own }
     requires text { IsType parts.now text.of }
@@ -116,7 +120,7 @@ fn derives_from(
     if text.is_restricted {
         derives_type_member(alloc, parts, own, text.of)
     } else {
-        derives_type(alloc, parts, own, text.of)
+        derives_type(alloc, parts, bases, own, text.of)
     }
 }
 
@@ -124,10 +128,12 @@ fn derives_from(
 fn derives_text(
     alloc: Global,
     parts: &Components,
+    bases: &BaseLines,
     own: TypeId,
     base: TypeId,
 ) -> Result<bool, AllocError>
     requires ranked { IsRanked parts.now }
+    requires bases { AreLinesOf parts.now bases.now }
     requires simple { AreSimple parts.now }
     requires contents { AreOwnThere parts.now }
     requires own { IsType parts.now own }
@@ -136,7 +142,7 @@ fn derives_text(
 {
     match text_type(parts, base) {
         None => Ok(false),
-        Some(text) => derives_from(alloc, parts, own, text),
+        Some(text) => derives_from(alloc, parts, bases, own, text),
     }
 }
 
@@ -144,10 +150,12 @@ fn derives_text(
 pub(crate) fn is_text_derived(
     alloc: Global,
     parts: &Components,
+    bases: &BaseLines,
     own: Option<TypeId>,
     base: TypeId,
 ) -> Result<bool, AllocError>
     requires ranked { IsRanked parts.now }
+    requires bases { AreLinesOf parts.now bases.now }
     requires simple { AreSimple parts.now }
     requires contents { AreOwnThere parts.now }
     requires own { IfSome own (IsType parts.now) }
@@ -156,6 +164,6 @@ pub(crate) fn is_text_derived(
 {
     match own {
         None => Ok(true),
-        Some(own) => derives_text(alloc, parts, own, base),
+        Some(own) => derives_text(alloc, parts, bases, own, base),
     }
 }

@@ -1,6 +1,7 @@
 //! The attribute uses of a restriction against those of its base.
 
 ghost use Rattle.std.specs.Prelude.{◌≡◌, ◌↔◌, ◌+◌, ◌<◌, None, Some, List, Bool, IsTrue, IfOk, IfSome, length, slice_get};
+ghost use Rattle.component_tables.specs.Bases.{AreLinesOf};
 ghost use Rattle.xs_names.specs.Names.{space_of};
 ghost use Rattle.std.specs.Option.{option_map, option_copied};
 ghost use Rattle.xs_components.specs.Tables.{Tables};
@@ -61,6 +62,7 @@ fn both_code(
     base: &DeclaredUse<'_>,
 ) -> Result<Option<Code>, AllocError>
     requires given { AreGiven set.now.parts.now set.now.names.now }
+    requires bases { AreLinesOf set.now.parts.now set.now.bases.now }
     requires types { AreTypes set.now.parts.now types.old }
     requires own { IsDeclaration set.now.parts.now set.now.names.now own.now.decl.now }
     requires base { IsDeclaration set.now.parts.now set.now.names.now base.now.decl.now }
@@ -68,7 +70,7 @@ fn both_code(
         (Some (spec.declared own.now)) (Some (spec.declared base.now)))) }
     ensures same { types.new ≡ types.old }
 {
-    let derived = derives_type(alloc, set.parts, own.decl.of, base.decl.of)?;
+    let derived = derives_type(alloc, set.parts, set.bases, own.decl.of, base.decl.of)?;
     let constraint = effective(own.part, own.decl);
     let base_constraint = effective(base.part, base.decl);
     let lost = loses_fixed(
@@ -116,6 +118,7 @@ fn name_code(
     base: Option<DeclaredUse<'_>>,
 ) -> Result<Option<Code>, AllocError>
     requires given { AreGiven set.now.parts.now set.now.names.now }
+    requires bases { AreLinesOf set.now.parts.now set.now.bases.now }
     requires types { AreTypes set.now.parts.now types.old }
     requires own { IfSome own (λ u. IsDeclaration set.now.parts.now set.now.names.now u.decl.now) }
     requires base { IfSome base (λ u. IsDeclaration set.now.parts.now set.now.names.now u.decl.now) }
@@ -148,6 +151,7 @@ fn code_at(
     name: u32,
 ) -> Result<Option<Code>, AllocError>
     requires given { AreGiven set.now.parts.now set.now.names.now }
+    requires bases { AreLinesOf set.now.parts.now set.now.bases.now }
     requires types { AreTypes set.now.parts.now types.old }
     requires store { IsStore set.now.tables.now.store }
     requires tables { (ids : List Bool) × (value also : AttrUses) × StandsFor set.now.parts.now ids set.now.tables.now.store own value × StandsFor set.now.parts.now ids set.now.tables.now.store base also }
@@ -183,6 +187,7 @@ pub(crate) fn uses_code(
     base: KeptTable,
 ) -> Result<Option<Code>, AllocError>
     requires given { AreGiven set.now.parts.now set.now.names.now }
+    requires bases { AreLinesOf set.now.parts.now set.now.bases.now }
     requires types { AreTypes set.now.parts.now types.old }
     requires store { IsStore set.now.tables.now.store }
     requires tables { (ids : List Bool) × (value also : AttrUses) × StandsFor set.now.parts.now ids set.now.tables.now.store own value × StandsFor set.now.parts.now ids set.now.tables.now.store base also }

@@ -113,7 +113,14 @@ fn may_govern(
         declaration_blocks(view.parts, element),
         type_blocks(view.parts, &declared),
     );
-    is_derived(alloc, view.parts, *of, declared, &excluded)
+    is_derived(
+        alloc,
+        view.parts,
+        view.declarations.bases(),
+        *of,
+        declared,
+        &excluded,
+    )
 }
 
 /// The type of a declaration.

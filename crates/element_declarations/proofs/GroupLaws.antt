@@ -3,25 +3,26 @@ use Rattle.std.proofs.Common.{◌≡◌, inl, inr, ℕ, zero, suc, ◌+◌, ◌<
 use Rattle.std.specs.Prelude.{All, Contains}
 use Rattle.std.specs.List.Sorted.{IsStrictlySortedBy}
 use Rattle.std.specs.declared.cmp.Ordering.TheVariants.{Less}
+use Rattle.std.proofs.lemmas.Bool.{true≢false}
 use Rattle.std.proofs.lemmas.List.{take_all, take_more, map-append, length-map}
 use Rattle.std.proofs.lemmas.List.Elements.{All-weaker, All-contains, All-contains_itself, recursion_from_All, Contains-append_left, Contains-push, Contains-push_cases}
 use Rattle.xs_components.specs.Tables.{Tables}
 use Rattle.xs_components.specs.declared.element.ElementDecl.{ElementDecl}
 use Rattle.xs_components.specs.Heads.{names_of}
-use Rattle.element_declarations.specs.Groups.{IsMember, IsGroup, AreGroups, by_place, name_of, part_name}
-use Rattle.element_declarations.specs.inside.Steps.{IsGroupSoFar, IsPutIf, IsInOrder, IsJoined}
+use Rattle.element_declarations.specs.Groups.{IsEntry, AreGroups, by_place, name_of, part_name}
+use Rattle.element_declarations.specs.inside.Steps.{IsListed, IsGroupSoFar, IsPutIf, IsInOrder, IsJoined}
 use Rattle.element_declarations.proofs.OrderLaws.{sorted-push, before-place}
 use Rattle.element_declarations.proofs.HeadLaws.{member-there}
 
 module _ (t : Tables) (head : ℕ) where
   module _ (done : List ℕ) (e : ℕ) (old new : List ℕ) (before : All (λ x. by_place t x e ≡ Less) done) (g : IsGroupSoFar t head done old) where
-    with-one : IsMember t head e → new ≡ old ++ name_of t e ∷ [] → IsGroupSoFar t head (done ++ e ∷ []) new
+    with-one : IsListed t head e → new ≡ old ++ name_of t e ∷ [] → IsGroupSoFar t head (done ++ e ∷ []) new
     with-one is put = record {
       members = g.members ++ e ∷ [];
       exact = λ x. (
         (λ c. elim (Contains-push_cases g.members e x c) [
           | inl own ↦ (Contains-append_left done (e ∷ []) x ((g.exact x).0 own).0, ((g.exact x).0 own).1)
-          | inr same ↦ (subst (Contains (done ++ e ∷ [])) same (Contains-push done e), subst (IsMember t head) same is)
+          | inr same ↦ (subst (Contains (done ++ e ∷ [])) same (Contains-push done e), subst (IsListed t head) same is)
         ]),
         (λ p. elim (Contains-push_cases done e x p.0) [
           | inl own ↦ Contains-append_left g.members (e ∷ []) x ((g.exact x).1 (own, p.1))
@@ -34,39 +35,48 @@ module _ (t : Tables) (head : ℕ) where
       all_names = put ∙ (ap (λ xs. xs ++ name_of t e ∷ []) g.all_names ∙ ap (λ xs. name_of t head ∷ xs) (sym (map-append (name_of t) g.members (e ∷ []))));
     }
 
-    without-one : (IsMember t head e → ⊥) → new ≡ old → IsGroupSoFar t head (done ++ e ∷ []) new
+    without-one : (IsListed t head e → ⊥) → new ≡ old → IsGroupSoFar t head (done ++ e ∷ []) new
     without-one never same = record {
       members = g.members;
       exact = λ x. (
         (λ c. (Contains-append_left done (e ∷ []) x ((g.exact x).0 c).0, ((g.exact x).0 c).1)),
         (λ p. elim (Contains-push_cases done e x p.0) [
           | inl own ↦ (g.exact x).1 (own, p.1)
-          | inr is ↦ absurd (never (subst (IsMember t head) (sym is) p.1))
+          | inr is ↦ absurd (never (subst (IsListed t head) (sym is) p.1))
         ]),
       );
       ordered = g.ordered;
       all_names = same ∙ g.all_names;
     }
 
-    put-one : IsPutIf (IsMember t head e) (name_of t e) old new → IsGroupSoFar t head (done ++ e ∷ []) new
+    put-one : IsPutIf (IsListed t head e) (name_of t e) old new → IsGroupSoFar t head (done ++ e ∷ []) new
     put-one (inl p) = with-one p.0 p.1
     put-one (inr p) = without-one p.0 p.1
 
   -- with the next element
-  pub group-more : (order : List ℕ) (i e : ℕ) (old new : List ℕ) → IsInOrder t order → i < length order → e ≡ get_or order i e → IsGroupSoFar t head (take i order) old → IsPutIf (IsMember t head e) (name_of t e) old new → IsGroupSoFar t head (take (i + 1) order) new
+  pub group-more : (order : List ℕ) (i e : ℕ) (old new : List ℕ) → IsInOrder t order → i < length order → e ≡ get_or order i e → IsGroupSoFar t head (take i order) old → IsPutIf (IsListed t head e) (name_of t e) old new → IsGroupSoFar t head (take (i + 1) order) new
   group-more order i e old new all l is g put =
       subst (λ done. IsGroupSoFar t head done new) (ap (λ x. take i order ++ x ∷ []) is ∙ sym (take_more order i e l))
       (put-one (take i order) e old new (subst (λ y. All (λ x. by_place t x y ≡ Less) (take i order)) (sym is) (before-place t order i e all.ordered l)) g put)
 
-  pub group-whole : (order names : List ℕ) → IsInOrder t order → IsGroupSoFar t head order names → IsGroup t head names
+  no-members : (xs : List ℕ) → ((x : ℕ) → Contains xs x → ⊥) → xs ≡ []
+  no-members [] none = refl
+  no-members (x ∷ xs) none = absurd (none x (0, omega arith, refl))
+
+  pub group-whole : (order names : List ℕ) → IsInOrder t order → IsGroupSoFar t head order names → IsEntry t head names
   group-whole order names all g = record {
-    members = g.members;
-    exact = λ e. (
-      (λ c. ((g.exact e).0 c).1),
-      (λ m. (g.exact e).1 (all.each e (member-there t head e m), m)),
-    );
-    ordered = g.ordered;
-    all_names = g.all_names;
+    named = λ named. record {
+      members = g.members;
+      exact = λ e. (
+        (λ c. ((g.exact e).0 c).1.member),
+        (λ m. (g.exact e).1 (all.each e (member-there t head e m), record { named = named; member = m })),
+      );
+      ordered = g.ordered;
+      all_names = g.all_names;
+    };
+    other = λ other.
+        let none = no-members g.members (λ x c. let listed = ((g.exact x).0 c).1 in true≢false (sym listed.named ∙ other)) in
+        g.all_names ∙ ap (λ xs. name_of t head ∷ map (name_of t) xs) none;
   }
 
   none-sorted : IsStrictlySortedBy (by_place t) []

@@ -6,3 +6,4 @@ pub mod StandLaws
 pub mod OrderLaws
 pub mod GroupLaws
 pub mod HeadLaws
+pub mod NamedLaws

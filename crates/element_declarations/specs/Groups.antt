@@ -1,5 +1,6 @@
 -- Substitution groups (Structures 3.3.6).
-use Rattle.std.specs.Prelude.{◌≡◌, ◌≢◌, ◌↔◌, ◌⊎◌, ℕ, ◌<◌, Bool, true, false, List, ◌∷◌, Option, None, Some, Contains, map, length, slice_get}
+use Rattle.std.specs.Prelude.{◌≡◌, ◌≢◌, ◌==◌, ◌↔◌, ◌⊎◌, ℕ, ◌<◌, Bool, true, false, List, [], ◌∷◌, Option, None, Some, Contains, map, length, slice_get}
+use Rattle.std.specs.List.{list_any}
 use Rattle.std.specs.Option.{option_and_then}
 use Rattle.std.specs.List.Sorted.{IsStrictlySortedBy}
 use Rattle.std.specs.Ordering.{nat_cmp, ordering_then}
@@ -11,6 +12,8 @@ use Rattle.xs_components.specs.declared.common.TypeId.{TypeId}
 use Rattle.xs_components.specs.declared.common.TypeId.TheVariants.{AnyType, Builtin, Simple, Complex}
 use Rattle.xs_components.specs.declared.complex.ComplexType.{ComplexType}
 use Rattle.xs_components.specs.declared.element.ElementDecl.{ElementDecl}
+use Rattle.xs_components.specs.declared.particle.Term.{Term}
+use Rattle.xs_components.specs.declared.particle.Term.TheVariants.{Element, Any, Group, Sequence, Choice, All as AllOf}
 use Rattle.xs_components.specs.Heads.{names_of}
 use Rattle.component_tables.specs.Types.{type_of}
 use Rattle.type_derivation.specs.Chains.{Derives}
@@ -118,7 +121,26 @@ pub record IsGroup (t : Tables) (head : ℕ) (names : List ℕ) : Type 0 where
   pub ordered : IsStrictlySortedBy (by_place t) members
   pub all_names : names ≡ name_of t head ∷ map (name_of t) members
 
--- these are the groups of all elements
+-- the term is this element
+abbrev pub is_element : Term → ℕ → Bool
+is_element (Element e) element = e == element
+is_element (Any wildcard) element = false
+is_element (Group group) element = false
+is_element (Sequence members) element = false
+is_element (Choice members) element = false
+is_element (AllOf members) element = false
+
+-- a content model names the element: it is the {term} of a particle (Structures 3.9.1)
+abbrev pub is_named : Tables → ℕ → Bool
+is_named t element = list_any (λ part. is_element part.term element) t.particles.parts
+
+-- What is found for an element: the names of its group, where a content model names it, and else its own name alone. Nobody asks
+-- for the groups of the others, which may have as many members as there are pairs of elements.
+pub record IsEntry (t : Tables) (head : ℕ) (names : List ℕ) : Type 0 where
+  pub named : is_named t head ≡ true → IsGroup t head names
+  pub other : is_named t head ≡ false → names ≡ name_of t head ∷ []
+
+-- these are the groups of the elements that content models name
 pub record AreGroups (t : Tables) (groups : List (List ℕ)) : Type 0 where
   pub each : length groups ≡ length t.elements.parts
-  pub are : (head : ℕ) → head < length groups → IsGroup t head (names_of groups head)
+  pub are : (head : ℕ) → head < length groups → IsEntry t head (names_of groups head)

@@ -7,8 +7,9 @@ ghost use Rattle.component_references.specs.Ranked.{IsRanked};
 ghost use Rattle.component_tables.specs.Types.{AreDeclarationsOf};
 ghost use Rattle.type_derivation.specs.Within.{AreSimple};
 ghost use Rattle.element_declarations.specs.Groups as spec;
-ghost use Rattle.element_declarations.specs.inside.Steps.{IsOffered, IsJoined, IsGroupSoFar};
+ghost use Rattle.element_declarations.specs.inside.Steps.{AreMarked, IsOffered, IsJoined, IsGroupSoFar};
 
+use crate::named::{is_marked, named_marks};
 use crate::order::in_order;
 use crate::standing::may_stand;
 use component_tables::Declarations;
@@ -44,11 +45,12 @@ fn put_name(lists: &mut Vec<NameIdList>, element: ElementId, name: NameId) -> Re
     lists[element.number() as usize].push(name)
 }
 
-// Puts an element to the group of one head, if it may stand for it.
+// Puts an element to the group of one head, if that is marked and the element may stand for it.
 fn offer(
     alloc: Global,
     parts: &Components,
     declarations: &Declarations,
+    marks: &[bool],
     element: ElementId,
     head: ElementId,
     lists: &mut Vec<NameIdList>,
@@ -57,22 +59,27 @@ fn offer(
     requires simple { AreSimple parts.now }
     requires types { (n : ℕ) (part : ElementDecl) → slice_get parts.now.elements.parts n ≡ Some part → IfSome part.of (IsType parts.now) }
     requires declarations { AreDeclarationsOf parts.now declarations.now }
+    requires marks { AreMarked parts.now marks.now }
     requires element { element < length parts.now.elements.parts }
     requires head { head < length parts.now.elements.parts }
     requires count { length lists.old.items ≡ length parts.now.elements.parts }
     ensures { OnOk result (IsOffered parts.now element head lists.old.items lists.new.items) }
 {
+    if !is_marked(marks, head) {
+        return Ok(());
+    }
     if may_stand(alloc, parts, declarations, element, head)? {
         put_name(lists, head, parts.element(element).name)?;
     }
     Ok(())
 }
 
-// Puts an element to the groups of which it is a member.
+// Puts an element to the groups of which it is a member, of those whose heads are marked.
 fn join(
     alloc: Global,
     parts: &Components,
     declarations: &Declarations,
+    marks: &[bool],
     element: ElementId,
     lists: &mut Vec<NameIdList>,
 ) -> Result<(), AllocError>
@@ -80,19 +87,20 @@ fn join(
     requires simple { AreSimple parts.now }
     requires types { (n : ℕ) (part : ElementDecl) → slice_get parts.now.elements.parts n ≡ Some part → IfSome part.of (IsType parts.now) }
     requires declarations { AreDeclarationsOf parts.now declarations.now }
+    requires marks { AreMarked parts.now marks.now }
     requires there { element < length parts.now.elements.parts }
     requires count { length lists.old.items ≡ length parts.now.elements.parts }
     ensures { OnOk result (IsJoined parts.now element lists.old.items lists.new.items) }
 {
     let mut above = parts.element(element).head;
     'up: while let Some(head) = above {
-        offer(alloc, parts, declarations, element, head, lists)?;
+        offer(alloc, parts, declarations, marks, element, head, lists)?;
         above = parts.element(head).head;
     }
     Ok(())
 }
 
-// The names of the members of each group.
+// The names of the members of each group whose head a content model names.
 fn member_names(
     alloc: Global,
     parts: &Components,
@@ -105,9 +113,10 @@ fn member_names(
     ensures { IfOk result (λ lists. spec.AreGroups parts.now lists.items) }
 {
     let order = in_order(alloc, parts)?;
+    let marks = named_marks(alloc, parts)?;
     let mut lists = own_names(alloc, parts)?;
     for element in &order {
-        join(alloc, parts, declarations, *element, &mut lists)?;
+        join(alloc, parts, declarations, &marks, *element, &mut lists)?;
     }
     Ok(lists)
 }
@@ -123,8 +132,9 @@ fn as_members(alloc: Global, lists: Vec<NameIdList>) -> Result<Members, AllocErr
     Ok(members)
 }
 
-/// The substitution groups of all elements of a schema set (Structures 3.3.6): for each element the names of those that may
-/// stand for it, its own first, and then the others by document, item and number. `declarations` are those of the components.
+/// The substitution groups of a schema set (Structures 3.3.6): for each element that a content model names, the names of those that
+/// may stand for it, its own first, and then the others by document, item and number; for another its own name alone.
+/// `declarations` are those of the components.
 ///
 /// # Errors
 ///

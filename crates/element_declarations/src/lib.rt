@@ -5,6 +5,7 @@ mod blocking;
 mod classes;
 mod firsts;
 mod grouping;
+mod named;
 mod order;
 mod properties;
 mod set;

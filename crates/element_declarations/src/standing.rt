@@ -48,5 +48,5 @@ pub(crate) fn may_stand(
     let base = declarations.type_of(head);
     let sub = declarations.type_of(element);
     let blocked = blocked(parts, disallowed, &sub, &base);
-    derives(alloc, parts, sub, base, &blocked)
+    derives(alloc, parts, declarations.bases(), sub, base, &blocked)
 }

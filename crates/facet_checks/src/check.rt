@@ -4,7 +4,7 @@ ghost use Rattle.std.specs.Option.{option_copied};
 ghost use Rattle.facet_checks.specs.Check as spec;
 
 use crate::order::{is_at_most, is_below};
-use crate::pattern::{do_match_each, matches_each};
+use crate::pattern::do_match_each;
 use crate::{Bound, Count, FacetList, Shared, ValueSet};
 use dec_value::Dec;
 use simple_values::{Atom, Value, length};
@@ -13,22 +13,11 @@ use xs_codes::Code;
 
 impl FacetList {
     /// The code of the first facet that a value does not meet; `None` where it meets all. The text is the one that the value
-    /// was read from, its white space treated. It takes no memory, and leaves the facets as they are.
+    /// was read from, its white space treated. Memory for matching is taken meanwhile.
     ///
     /// The order is that of patterns, lengths, enumeration, bounds and digits. A bound is met only where the comparison is
     /// decided, and lengths are met by every value that has none.
-    pub fn check(&mut self, value: &Value, text: &str) -> Option<Code>
-        ensures code { spec.IsChecked self.old value.now text.now result }
-        ensures same { self.new ≡ self.old }
-    {
-        if !matches_each(self.patterns.as_mut_slice(), text) {
-            return Some(Code::CvcPatternValid);
-        }
-        self.first_unmet(value)
-    }
-
-    /// The same as `check`, of facets that others share: memory for matching is taken meanwhile.
-    pub fn check_shared(
+    pub fn check(
         &self,
         alloc: Global,
         value: &Value,

@@ -5,11 +5,10 @@ mod check;
 mod list;
 mod order;
 mod pattern;
-mod shared;
 mod values;
 
 pub use list::{Alternatives, Bound, Count, FacetList, Handling, ValueList};
 pub use order::{is_at_most, is_below};
 pub use pattern::PatternText;
-pub use shared::Shared;
+pub use shared_lists::Shared;
 pub use values::ValueSet;

@@ -55,8 +55,8 @@ pub type ValueList = Listed<Shared<Value>>;
 pub struct FacetList {
     /// Absent for unions, which leave white space to their members.
     pub white_space: Option<Handling>,
-    /// Those of each step that has some, the last step last.
-    pub patterns: Listed<Alternatives>,
+    /// Those of each step that has some, the last step last; shared with the types that are derived from the one whose step has them.
+    pub patterns: Listed<Shared<Alternatives>>,
     pub length: Option<Count>,
     pub min_length: Option<Count>,
     pub max_length: Option<Count>,
@@ -127,7 +127,7 @@ impl FacetList {
         requires { copy.old ≡ plain_part self.now }
         ensures { OnOk result (copy.new ≡ self.now) }
     {
-        copy.patterns = copied_steps(alloc, self.patterns.as_slice())?;
+        copy.patterns = same_steps(alloc, self.patterns.as_slice())?;
         copy.enumeration = same_values(self.enumeration.as_ref())?;
         copy.max_inclusive = copied_bound(self.max_inclusive.as_ref())?;
         copy.max_exclusive = copied_bound(self.max_exclusive.as_ref())?;
@@ -155,22 +155,15 @@ fn same_values(values: Option<&Shared<ValueSet>>) -> Result<Option<Shared<ValueS
     }
 }
 
-fn copied_steps(alloc: Global, steps: &[Alternatives]) -> Result<Listed<Alternatives>, AllocError>
+fn same_steps(
+    alloc: Global,
+    steps: &[Shared<Alternatives>],
+) -> Result<Listed<Shared<Alternatives>>, AllocError>
     ensures { IfOk result (λ copies. copies ≡ steps.now) }
 {
-    let mut copies = Listed::new(alloc);
+    let mut copies = Vec::with_capacity(alloc, steps.len())?;
     for patterns in steps {
-        copies.push(copied_patterns(alloc, patterns.as_slice())?)?;
+        copies.push(patterns.try_clone()?)?;
     }
-    Ok(copies)
-}
-
-fn copied_patterns(alloc: Global, patterns: &[PatternText]) -> Result<Alternatives, AllocError>
-    ensures { IfOk result (λ copies. copies ≡ patterns.now) }
-{
-    let mut copies = Vec::with_capacity(alloc, patterns.len())?;
-    for pattern in patterns {
-        copies.push(pattern.try_clone(alloc)?)?;
-    }
-    Ok(Alternatives::from_vec(copies))
+    Ok(Listed::from_vec(copies))
 }

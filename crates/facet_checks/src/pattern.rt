@@ -4,11 +4,11 @@ ghost use Rattle.std.specs.Str.{chars};
 ghost use Rattle.xs_regex.specs.Meaning.{MatchesPattern};
 ghost use Rattle.facet_checks.specs.Patterns.{IsRefusedPattern, pattern_code, MatchesSome, MatchesEach};
 
+use crate::{Alternatives, Shared};
 use pattern_syntax::PatternFault;
 use std::alloc::{AllocError, Global};
 use std::marker::Model;
 use xs_codes::Code;
-use xs_lists::Listed;
 use xs_names::Text;
 use xs_regex::Pattern;
 
@@ -82,42 +82,16 @@ fn code_of(fault: PatternFault) -> Code
     }
 }
 
-/// Whether the text matches one of the patterns.
-pub(crate) fn matches_some(patterns: &mut [PatternText], text: &str) -> bool
-    ensures answer { IsTrue result ↔ MatchesSome patterns.old text.now }
-    ensures same { patterns.new ≡ patterns.old }
-{
-    for i in 0..patterns.len() {
-        if patterns[i].matches(text) {
-            return true;
-        }
-    }
-    false
-}
-
-/// Whether the text matches one of the patterns of each step.
-pub(crate) fn matches_each(steps: &mut [Listed<PatternText>], text: &str) -> bool
-    ensures answer { IsTrue result ↔ MatchesEach steps.old text.now }
-    ensures same { steps.new ≡ steps.old }
-{
-    for i in 0..steps.len() {
-        if !matches_some(steps[i].as_mut_slice(), text) {
-            return false;
-        }
-    }
-    true
-}
-
 /// Whether the text matches one of the patterns of each step, which are shared.
 pub(crate) fn do_match_each(
     alloc: Global,
-    steps: &[Listed<PatternText>],
+    steps: &[Shared<Alternatives>],
     text: &str,
 ) -> Result<bool, AllocError>
     ensures { IfOk result (λ answer. IsTrue answer ↔ MatchesEach steps.now text.now) }
 {
     for patterns in steps {
-        if !do_match_some(alloc, patterns.as_slice(), text)? {
+        if !do_match_some(alloc, patterns.get().as_slice(), text)? {
             return Ok(false);
         }
     }

@@ -1,5 +1,5 @@
 -- The rules of bounds in a step of restriction: Datatypes 4.3.7 to 4.3.10. An order that is not decided breaks none.
-use Rattle.std.specs.Prelude.{Bool, true, false, not, ◌&&◌, ◌||◌, List, [], ◌∷◌, ◌++◌, Option, None, Some, is_some}
+use Rattle.std.specs.Prelude.{Bool, false, not, ◌&&◌, ◌||◌, List, [], ◌∷◌, ◌++◌, Option, None, Some, is_some}
 use Rattle.xs_codes.specs.declared.code.Code.TheVariants.{StRestrictFacets, MaxInclusiveMaxExclusive, MinInclusiveMinExclusive, MinInclusiveLessThanEqualToMaxInclusive, MinExclusiveLessThanEqualToMaxExclusive, MinExclusiveLessThanMaxInclusive, MinInclusiveLessThanMaxExclusive, MaxInclusiveValidRestriction, MaxExclusiveValidRestriction, MinInclusiveValidRestriction, MinExclusiveValidRestriction}
 use Rattle.xs_components.specs.declared.simple.FacetKind.TheVariants as kinds
 use Rattle.simple_values.specs.declared.value.Value.{Value}

@@ -1,6 +1,6 @@
 -- The facets of a step that do not fit, stand twice or are not read. What is wrong with a facet in one of these ways leaves it
 -- undefined, and the first of these ways in the order of the codes is all that is said of it.
-use Rattle.std.specs.Prelude.{ℕ, ◌+◌, nat_lt, Bool, true, false, not, ◌&&◌, ◌||◌, if◌then◌else◌, List, [], ◌∷◌, Option, None, Some, is_some}
+use Rattle.std.specs.Prelude.{ℕ, ◌+◌, nat_lt, Bool, true, false, ◌||◌, if◌then◌else◌, List, [], ◌∷◌, Option, None, Some, is_some}
 use Rattle.xs_codes.specs.declared.code.Code.{Code}
 use Rattle.xs_codes.specs.declared.code.Code.TheVariants.{CosApplicableFacets, SrcSingleFacetValue}
 use Rattle.xs_components.specs.declared.simple.FacetKind.{FacetKind}

@@ -1,5 +1,5 @@
 -- The facets in force behind a step of restriction: Structures 3.14.6, Datatypes 4.3.
-use Rattle.std.specs.Prelude.{ℕ, Bool, true, false, ◌||◌, if◌then◌else◌, List, [], ◌∷◌, ◌++◌, Option, None, Some, is_some}
+use Rattle.std.specs.Prelude.{ℕ, Bool, ◌||◌, if◌then◌else◌, List, [], ◌∷◌, ◌++◌, Option, None, Some, is_some}
 use Rattle.xs_components.specs.declared.simple.FacetKind.{FacetKind}
 use Rattle.xs_components.specs.declared.simple.FacetKind.TheVariants as kinds
 use Rattle.simple_values.specs.declared.value.Value.{Value}

@@ -1,5 +1,5 @@
 -- What a step of restriction makes of the facets in force for its base: Structures 3.14.6, Datatypes 4.3.
-use Rattle.std.specs.Prelude.{Bool, true, false, if◌then◌else◌, List, ◌++◌, Option, None, Some, Result, Ok, Err}
+use Rattle.std.specs.Prelude.{if◌then◌else◌, List, ◌++◌, Option, None, Some, Result, Ok, Err}
 use Rattle.xs_codes.specs.declared.fault.Fault.{Fault}
 use Rattle.facet_checks.specs.declared.list.FacetList.{FacetList}
 use Rattle.facet_rules.specs.declared.merge.Judged.{Judged}

@@ -1,5 +1,5 @@
 -- The facets of one step of restriction, their texts read: Datatypes 4.3, Structures 3.14.2.
-use Rattle.std.specs.Prelude.{ℕ, ◌+◌, nat_lt, Bool, true, false, if◌then◌else◌, List, [], ◌∷◌, Option, None, Some}
+use Rattle.std.specs.Prelude.{ℕ, ◌+◌, Bool, true, false, if◌then◌else◌, List, [], ◌∷◌, Option, None, Some}
 use Rattle.xs_components.specs.declared.simple.FacetKind.{FacetKind}
 use Rattle.xs_components.specs.declared.simple.FacetKind.TheVariants as kinds
 use Rattle.xs_components.specs.declared.common.Place.{Place}

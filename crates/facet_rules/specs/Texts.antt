@@ -1,5 +1,5 @@
 -- What the texts of facets are read to: Datatypes 4.3.
-use Rattle.std.specs.Prelude.{◌≡◌, ℕ, nat_lt, Bool, true, false, if◌then◌else◌, List, [], ◌∷◌, Option, None, Some, Result, Ok, Err, bytes_eq, codes, ℤ, pos, negsuc, int_lt}
+use Rattle.std.specs.Prelude.{◌≡◌, ℕ, nat_lt, if◌then◌else◌, List, Option, None, Some, Result, Ok, Err, bytes_eq, codes, ℤ, pos, negsuc, int_lt}
 use Rattle.dec_value.specs.Decimal.{Decimal}
 use Rattle.xs_names.specs.declared.handling.WhiteSpace.TheVariants.{Preserve, Replace, Collapse}
 use Rattle.xs_codes.specs.declared.builtin.Builtin.{Builtin}

@@ -96,7 +96,7 @@ fn put_step(
     put_upper(base, facets)?;
     put_lower(base, facets)?;
     put_values(alloc, base, values)?;
-    put_patterns(base, patterns)
+    put_patterns(alloc, base, patterns)
 }
 
 fn put_counts(base: &mut FacetList, facets: &[ReadFacet])
@@ -145,11 +145,11 @@ fn put_values(alloc: Global, base: &mut FacetList, own: ValueList) -> Result<(),
 }
 
 // The step's patterns, if it has some, behind the base's.
-fn put_patterns(base: &mut FacetList, own: Alternatives) -> Result<(), AllocError>
+fn put_patterns(alloc: Global, base: &mut FacetList, own: Alternatives) -> Result<(), AllocError>
     ensures { OnOk result (base.new ≡ spec.with_patterns base.old own) }
 {
     if !own.is_empty() {
-        base.patterns.push(own)?;
+        base.patterns.push(Shared::new(alloc, own)?)?;
     }
     Ok(())
 }

@@ -1,6 +1,6 @@
 -- The facets of the built-in types: white space (Datatypes 4.3.6), and the bounds of the types of integers (3.3.13 to 3.3.25).
 -- None of them is fixed.
-use Rattle.std.specs.Prelude.{true, false, Option, None, Some}
+use Rattle.std.specs.Prelude.{false, Option, None, Some}
 use Rattle.dec_value.specs.Decimal.{Decimal}
 use Rattle.xs_codes.specs.declared.builtin.Builtin.{Builtin}
 use Rattle.simple_values.specs.declared.atom.Atom.TheVariants.{Number}

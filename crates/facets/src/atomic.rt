@@ -71,7 +71,7 @@ pub(crate) fn judged_value(
 ) -> Result<Result<Accepted, Code>, AllocError>
     ensures { IfOk result (λ outcome. spec.IsJudged list.now value text outcome) }
 {
-    match list.check_shared(alloc, &value, text.as_str())? {
+    match list.check(alloc, &value, text.as_str())? {
         Some(code) => Ok(Err(code)),
         None => Ok(Ok(Accepted { value, text })),
     }

@@ -102,12 +102,16 @@ impl Facets {
     }
 
     /// The code of the first facet that a value does not meet; `None` where it meets all (Datatypes 4.1.4). The text is the one
-    /// that the value was read from, its white space treated. It takes no memory.
-    pub fn check(&mut self, value: &Value, text: &str) -> Option<Code>
-        ensures code { IsChecked self.old.list value.now text.now result }
-        ensures same { self.new ≡ self.old }
+    /// that the value was read from, its white space treated.
+    pub fn check(
+        &self,
+        alloc: Global,
+        value: &Value,
+        text: &str,
+    ) -> Result<Option<Code>, AllocError>
+        ensures code { IfOk result (IsChecked self.now.list value.now text.now) }
     {
-        self.list.check(value, text)
+        self.list.check(alloc, value, text)
     }
 
     /// What a text reads to as a literal of the type, or the code of why it is none.

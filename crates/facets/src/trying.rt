@@ -138,7 +138,7 @@ fn shut_at(
         return Ok(None);
     }
     let list = gate.list.get();
-    match list.check_shared(alloc, &accepted.value, accepted.text.as_str())? {
+    match list.check(alloc, &accepted.value, accepted.text.as_str())? {
         Some(_) => Ok(Some(gate.to)),
         None => Ok(None),
     }

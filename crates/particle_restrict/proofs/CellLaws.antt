@@ -1,12 +1,12 @@
 -- Cells of pairs, by those of the pairs before them.
-use Rattle.std.proofs.Common.{◌≡◌, ℕ, zero, suc, ◌+◌, ◌*◌, ◌<◌, ◌≤◌, ◌↔◌, ◌&&◌, inl, inr, Bool, true, false, IsTrue, List, [], ◌∷◌, ◌++◌, Some, None, Option, map, length, get_or, slice_get, refl, sym, ap, subst, ◌∙◌, arith}
+use Rattle.std.proofs.Common.{◌≡◌, ℕ, zero, suc, ◌+◌, ◌*◌, ◌<◌, ◌↔◌, ◌&&◌, inl, inr, Bool, IsTrue, List, [], ◌∷◌, ◌++◌, Some, None, Option, length, get_or, slice_get, refl, sym, ap, subst, ◌∙◌, arith}
 use Rattle.std.specs.Prelude.{All as Each}
 use Rattle.std.proofs.lemmas.Bool.{and_parts, and_from, cases_eq, cases_lt}
 use Rattle.std.proofs.lemmas.List.{get_or_append_left, get_or_push}
 use Rattle.std.proofs.lemmas.List.Elements.{All-get_or}
 use Rattle.xs_components.specs.declared.common.TypeId.{TypeId}
 use Rattle.particle_models.specs.Trees.{Tree, Trees, leaf, group, once}
-use Rattle.particle_models.specs.Parts.{tree_at, tree_in, tree_of, members_at, trees_from, MembersBelow}
+use Rattle.particle_models.specs.Parts.{tree_in, tree_of, members_at, trees_from, MembersBelow}
 use Rattle.particle_models.specs.declared.part.Bounds.{Bounds}
 use Rattle.particle_models.specs.declared.part.Compositor.{Compositor}
 use Rattle.particle_models.specs.declared.part.Part.{Part}
@@ -14,7 +14,7 @@ use Rattle.particle_restrict.specs.Totals.{total, emptiable_members}
 use Rattle.particle_restrict.specs.Occurrence.{IsRangeOk, any_number}
 use Rattle.particle_restrict.specs.Terms.{IsElement, IsWildcard}
 use Rattle.particle_restrict.specs.Groups.{GroupRestricts}
-use Rattle.particle_restrict.specs.Restricts.{count, tree_nth, IsNsRecurse, LeafRestricts, LeafRestrictsNth, Restricts, AllRestrict, NthRestricts, GroupRestrictsLeaf}
+use Rattle.particle_restrict.specs.Restricts.{count, tree_nth, LeafRestrictsNth, Restricts, AllRestrict, NthRestricts, GroupRestrictsLeaf}
 use Rattle.particle_restrict.specs.Tables.{AreOrdered, no_cell, IsCell, AreCells, HaveCells}
 use Rattle.particle_restrict.specs.declared.cells.Cell.{Cell}
 use Rattle.particle_restrict.specs.declared.terms.Term.{Term}

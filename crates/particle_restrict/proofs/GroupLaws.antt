@@ -1,6 +1,6 @@
 -- What is known of the members by another relation that says the same.
-use Rattle.std.proofs.Common.{◌≡◌, ℕ, ◌<◌, ◌↔◌, Bool, List, length, get_or, arith}
-use Rattle.particle_restrict.specs.Maps.{IsMapping, HasMap, HasLaxMap, HasFirstMap, IsFirst, EachRestrictsSome}
+use Rattle.std.proofs.Common.{ℕ, ◌<◌, Bool, List, length, get_or, arith}
+use Rattle.particle_restrict.specs.Maps.{IsMapping, IsFirst}
 use Rattle.particle_models.specs.declared.part.Bounds.{Bounds}
 use Rattle.particle_models.specs.declared.part.Compositor.{Compositor}
 use Rattle.particle_models.specs.declared.part.Compositor.TheVariants.{Sequence, Choice, All}

@@ -5,3 +5,4 @@ pub mod TotalLaws
 pub mod MemberLaws
 pub mod GroupLaws
 pub mod CellLaws
+pub mod RangeLaws

@@ -1,12 +1,12 @@
 -- The members of a group, by the numbers of their parts.
-use Rattle.std.proofs.Common.{◌≡◌, ℕ, zero, suc, ◌+◌, ◌<◌, ◌↔◌, Bool, List, [], ◌∷◌, length, get_or, refl, sym, ap, subst, ◌∙◌, arith}
+use Rattle.std.proofs.Common.{◌≡◌, ℕ, zero, suc, ◌<◌, ◌↔◌, Bool, List, [], ◌∷◌, length, get_or, refl, ap, arith}
 use Rattle.std.specs.Prelude.{All as Each}
 use Rattle.std.proofs.lemmas.List.Elements.{All-nil, All-cons, All-head, All-tail}
 use Rattle.xs_components.specs.declared.common.TypeId.{TypeId}
-use Rattle.particle_models.specs.Trees.{Tree, Trees, leaf, group, none, member}
+use Rattle.particle_models.specs.Trees.{Tree}
 use Rattle.particle_models.specs.Parts.{tree_at, members_at}
 use Rattle.particle_models.specs.declared.part.Bounds.{Bounds}
-use Rattle.particle_restrict.specs.Totals.{emptiable_members, is_emptiable}
+use Rattle.particle_restrict.specs.Totals.{emptiable_members}
 use Rattle.particle_restrict.specs.Restricts.{count, tree_nth, LeafRestricts, LeafRestrictsNth, Restricts, AllRestrict, NthRestricts}
 use Rattle.particle_restrict.specs.declared.terms.Term.{Term}
 

@@ -4,9 +4,8 @@ use Rattle.std.proofs.lemmas.List.{map-append, take_more, length-map}
 use Rattle.particle_forms.specs.Ranges.{stopped}
 use Rattle.particle_forms.specs.Steps.{known}
 use Rattle.particle_forms.specs.declared.extent.TotalRange.{TotalRange}
-use Rattle.particle_models.specs.Trees.{Tree, Trees, leaf, group, none, member}
+use Rattle.particle_models.specs.Trees.{Tree, leaf, group}
 use Rattle.particle_models.specs.Parts.{tree_at, members_at, tree_of, trees_from}
-use Rattle.particle_models.specs.declared.part.Bounds.{Bounds}
 use Rattle.particle_models.specs.declared.part.Part.{Part}
 use Rattle.particle_models.specs.declared.part.Part.TheVariants.{Leaf, Group}
 use Rattle.particle_models.proofs.GroupGrowing.{trees_push, length-trees}

@@ -1,5 +1,5 @@
 -- The tables of pairs.
-use Rattle.std.specs.Prelude.{◌≡◌, ℕ, ◌+◌, ◌*◌, ◌<◌, ◌↔◌, Bool, false, IsTrue, List, [], ◌∷◌, ⊤, map, length, slice_index, slice_index_or, All as Each}
+use Rattle.std.specs.Prelude.{◌≡◌, ℕ, ◌+◌, ◌*◌, ◌<◌, ◌↔◌, Bool, false, IsTrue, List, [], ⊤, map, length, slice_index, slice_index_or, All as Each}
 use Rattle.xs_components.specs.declared.common.TypeId.{TypeId}
 use Rattle.particle_forms.specs.Ranges as ranges
 use Rattle.particle_forms.specs.Steps.{known}

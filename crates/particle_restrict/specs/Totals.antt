@@ -1,5 +1,5 @@
 -- Effective total ranges (Structures 3.8.6) of particles without pointless groups, and which of them are emptiable.
-use Rattle.std.specs.Prelude.{ℕ, ◌==◌, ◌||◌, Bool, List, [], ◌∷◌}
+use Rattle.std.specs.Prelude.{◌==◌, ◌||◌, Bool, List, [], ◌∷◌}
 use Rattle.particle_forms.specs.Ranges as ranges
 use Rattle.particle_forms.specs.declared.extent.TotalRange.{TotalRange}
 use Rattle.particle_models.specs.Trees.{Tree, Trees, leaf, group, none, member}

@@ -11,7 +11,7 @@ ghost use Rattle.particle_restrict.specs.Tables.{HasType, IsCell, AreCells, Have
 
 use crate::Pairs;
 use crate::groups::group_restricts;
-use crate::leaves::{is_element, is_wildcard, terms_restrict, total_ok};
+use crate::leaves::{is_element, is_wildcard, range_ok, terms_restrict, total_ok};
 use crate::terms::{Derivation, Term};
 use crate::totals::{Total, total_at};
 use particle_models::{Bounds, Compositor, Part};
@@ -170,9 +170,10 @@ fn over_leaf<T: Derivation>(
 {
     match &sides.derived[d as usize] {
         Part::Leaf(bounds, t) => {
-            let restricts = terms_restrict(sides.types, sides.terms, *bounds, *t, base, u);
             let any = any_number();
             let within = terms_restrict(sides.types, sides.terms, *bounds, *t, any, u);
+            let ok = range_ok(*bounds, base);
+            let restricts = both(within, ok);
             Cell { restricts, within }
         }
         Part::Group(_, _, members) => {

@@ -1,5 +1,5 @@
 -- The members of substitution groups have names of the table.
-use Rattle.std.proofs.Common.{◌≡◌, ℕ, ◌<◌, List, [], Option, Some, length, map, inl, inr, sym, ap, subst, ◌∙◌}
+use Rattle.std.proofs.Common.{◌≡◌, ℕ, ◌<◌, Bool, true, false, refl, List, [], ◌∷◌, Option, Some, length, map, inl, inr, sym, ap, subst, ◌∙◌}
 use Rattle.std.specs.Prelude.{All, Contains, unwrap_or}
 use Rattle.std.specs.Option.{option_and_then}
 use Rattle.std.proofs.lemmas.Bool.{cases_lt}
@@ -9,7 +9,7 @@ use Rattle.xs_names.specs.Names.{NameTable}
 use Rattle.xs_components.specs.Tables.{Tables}
 use Rattle.xs_components.specs.declared.element.ElementDecl.{ElementDecl}
 use Rattle.xs_components.specs.Heads.{names_of}
-use Rattle.element_declarations.specs.Groups.{HasHead, named, through, IsGroup, AreGroups, head_of, part_name, name_of}
+use Rattle.element_declarations.specs.Groups.{HasHead, named, through, is_named, IsGroup, IsEntry, AreGroups, head_of, part_name, name_of}
 use Rattle.compiled_schema.specs.Usable.{AreNamed}
 use Rattle.schema_compile.proofs.ContentLaws.{slice-there}
 
@@ -41,9 +41,16 @@ module _ (names : NameTable) (t : Tables) (are : AreNamed names t) where
       (All-map IsNumber (name_of t) g.members
       (All-weaker (Contains g.members) (λ e. IsNumber (name_of t e)) (λ e c. name-below e (member-there e head ((g.exact e).0 c).has_head)) g.members (All-contains_itself g.members))))
 
+  entry-below : (head : ℕ) (group : List ℕ) → IsEntry t head group → head < length t.elements.parts → All IsNumber group
+  entry-below head group entry l = of (is_named t head) refl
+    where
+      of : (b : Bool) → is_named t head ≡ b → All IsNumber group
+      of true e = group-below head group (entry.named e) l
+      of false e = subst (All IsNumber) (sym (entry.other e)) (All-cons IsNumber (name_of t head) [] (name-below head l) (All-nil IsNumber))
+
   pub members-named : (members : List (List ℕ)) → AreGroups t members → (element n : ℕ) → Contains (names_of members element) n → n < length names.names
   members-named members g element n c = elim (cases_lt element (length members)) [
-    | inl l ↦ All-contains IsNumber (names_of members element) n (group-below element (names_of members element) (g.are element l) (subst (λ k. element < k) g.each l)) c
+    | inl l ↦ All-contains IsNumber (names_of members element) n (entry-below element (names_of members element) (g.are element l) (subst (λ k. element < k) g.each l)) c
     | inr past ↦
         let none : names_of members element ≡ [] = ap (λ (o : Option (List ℕ)). unwrap_or o []) (slice_get_past members element past) in
         absurd (All-contains (λ m. ⊥) [] n (All-nil (λ m. ⊥)) (subst (λ (ns : List ℕ). Contains ns n) none c))

@@ -4,7 +4,6 @@ use Rattle.std.specs.Prelude.{is_some, nat_lt, int_lt, bytes_eq, codes}
 use Rattle.std.proofs.lemmas.Bool.{false≢true}
 use Rattle.dec_value.specs.Decimal.{Decimal}
 use Rattle.xs_names.specs.declared.handling.WhiteSpace.TheVariants.{Preserve, Replace, Collapse}
-use Rattle.xs_codes.specs.declared.builtin.Builtin.{Builtin}
 use Rattle.xs_codes.specs.declared.builtin.Builtin.TheVariants as builtins
 use Rattle.xs_codes.specs.declared.code.Code.{Code}
 use Rattle.xs_codes.specs.declared.code.Code.TheVariants.{XLimitValue, XFacetLiteral}
@@ -12,13 +11,10 @@ use Rattle.xs_codes.specs.declared.fault.Fault.{Fault}
 use Rattle.xs_components.specs.declared.simple.FacetItem.{FacetItem}
 use Rattle.xs_components.specs.declared.simple.FacetKind.{FacetKind}
 use Rattle.xs_components.specs.declared.simple.FacetKind.TheVariants as kinds
-use Rattle.xs_components.specs.declared.common.Place.{Place}
 use Rattle.simple_values.specs.declared.fault.ValueFault.{ValueFault}
 use Rattle.simple_values.specs.declared.value.Value.{Value}
 use Rattle.simple_values.specs.Reading.{literal_value, value_of}
-use Rattle.facet_checks.specs.declared.list.FacetList.{FacetList}
 use Rattle.facet_checks.specs.Check.{number_of}
-use Rattle.facet_rules.specs.declared.step.Reading.{Reading}
 use Rattle.facet_rules.specs.declared.step.Reading.TheVariants as readings
 use Rattle.facet_rules.specs.declared.step.ReadFacet.{ReadFacet}
 use Rattle.facet_rules.specs.declared.step.ReadStep.{ReadStep}
@@ -27,20 +23,19 @@ use Rattle.facet_rules.specs.Defects.{is_unread, are_defined, defect_of, defect_
 use Rattle.facet_rules.specs.CountRules.{count_rules}
 use Rattle.facet_rules.specs.BoundRules.{bound_rules}
 use Rattle.facet_rules.specs.Merge.{merged}
-use Rattle.facet_rules.specs.Rules.{step_rules, judged_of}
+use Rattle.facet_rules.specs.Rules.{step_rules}
 use Rattle.facet_rules.specs.declared.read.FacetRead.{FacetRead}
-use Rattle.facet_rules.specs.declared.read.FacetRead.TheVariants as reads
 use Rattle.facet_rules.specs.Applicable.{fits}
 use Rattle.facet_rules.specs.Read.{with_read, no_step, reading_of}
-use Rattle.facet_rules.specs.Texts.{literal_code, way_reading, count_at, whole_count, count_by, count_read, bound_by, bound_read, pattern_read, IsPatternRead, IsTextRead}
+use Rattle.facet_rules.specs.Texts.{way_reading, count_at, whole_count, count_by, count_read, bound_by, bound_read, pattern_read, IsTextRead}
 use Rattle.facets.specs.declared.atomic.Accepted.{Accepted}
 use Rattle.facets.specs.declared.facets.Facets.{Facets}
 use Rattle.facets.specs.declared.known.Judged.{Judged}
 use Rattle.facets.specs.declared.known.Known.TheVariants.{Whole}
 use Rattle.facets.specs.Source.{family, builtin}
-use Rattle.facets.specs.Reading.{value_read, IsValueRead, is_read_by_base, IsFitReadIf, IsReadIf, IsFacetRead, IsReadBehind}
+use Rattle.facets.specs.Reading.{value_read, is_read_by_base, IsFitReadIf, IsReadIf, IsFacetRead, IsReadBehind}
 use Rattle.facets.specs.Facets.{facets_by, IsStepJudged}
-use Rattle.simple_types.proofs.Whole.{first-none, first-unbroken}
+use Rattle.simple_types.proofs.Whole.{first-unbroken}
 
 -- the facet is not left unread
 abbrev IsDone : FacetRead → Type 0

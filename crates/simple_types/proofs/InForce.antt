@@ -1,5 +1,5 @@
 -- What judging a type comes to is what is in force for it, unfolded.
-use Rattle.std.proofs.Common.{◌≡◌, ℕ, zero, suc, ◌+◌, ◌<◌, ◌≤◌, inl, inr, length, Bool, true, false, List, [], ◌∷◌, Option, None, Some, map, slice_get, slice_index, refl, sym, ap, subst, ◌∙◌, arith}
+use Rattle.std.proofs.Common.{◌≡◌, ℕ, zero, suc, ◌+◌, ◌<◌, inl, inr, length, Bool, true, false, List, [], ◌∷◌, Option, None, Some, map, slice_get, slice_index, refl, sym, ap, subst, ◌∙◌, arith}
 use Rattle.std.specs.Prelude.{All}
 use Rattle.std.specs.Option.{unwrap_or}
 use Rattle.std.proofs.lemmas.Bool.{cases_lt}
@@ -16,7 +16,7 @@ use Rattle.xs_components.specs.declared.simple.SimpleType.{SimpleType}
 use Rattle.xs_components.specs.declared.complex.ContentForm.{ContentForm}
 use Rattle.xs_components.specs.declared.complex.ContentForm.TheVariants as contents
 use Rattle.xs_components.specs.declared.complex.ComplexType.{ComplexType}
-use Rattle.component_references.specs.Heights.{first_height, type_height, IsLower}
+use Rattle.component_references.specs.Heights.{first_height, IsLower}
 use Rattle.component_references.specs.Ranked.{named_types, IsRanked}
 use Rattle.facets.specs.declared.facets.Facets.{Facets}
 use Rattle.facets.specs.declared.known.Known.{Known}
@@ -24,14 +24,14 @@ use Rattle.facets.specs.declared.known.Known.TheVariants.{Whole}
 use Rattle.facets.specs.declared.members.Members.{Members}
 use Rattle.facets.specs.Making.{no_members, with_member}
 use Rattle.facets.specs.Source.{list_of}
-use Rattle.simple_types.specs.TypeTree.{TypeTree, not_simple, built_in, restriction, list_type, union_type, members_of}
-use Rattle.simple_types.specs.Trees.{form_tree, part_tree, simple_tree, content_form, content_part, restricted_tree, type_tree}
+use Rattle.simple_types.specs.TypeTree.{TypeTree, not_simple, restriction, list_type, union_type, members_of}
+use Rattle.simple_types.specs.Trees.{form_tree, part_tree, simple_tree, content_form, content_part, type_tree}
 use Rattle.simple_types.specs.SimpleValidity.{AreInForce, IsMade, AreMembers, IsListKnown, made_from_both, known_behind}
 use Rattle.simple_types.proofs.TreeLaws.{simple_tree_is, type_tree_is}
 use Rattle.simple_types.specs.declared.judged.TypeFacets.{TypeFacets}
 use Rattle.simple_types.specs.declared.judged.JudgedType.{JudgedType}
 use Rattle.simple_types.specs.Lookup.{unknown, entry_of, entry_at, looked_up, content_of}
-use Rattle.simple_types.specs.Forms.{left_behind, IsStepMade, list_facets, members_behind, known_of_members, union_facets, IsRestrictionMade, list_made, union_made, IsFormMade, without_fault, restricted, IsContentMade}
+use Rattle.simple_types.specs.Forms.{left_behind, IsStepMade, list_facets, members_behind, known_of_members, IsFormMade, IsContentMade}
 use Rattle.simple_types.specs.Judging.{Holds, IsSimpleAt, IsContentAt, AreSimplesJudged, AreContentsJudged}
 use Rattle.simple_types.specs.declared.types.SimpleTypes.{SimpleTypes}
 use Rattle.simple_types.specs.SimpleTypes.{AreTypesOf, IsWhole}

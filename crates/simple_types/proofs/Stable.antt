@@ -1,5 +1,5 @@
 -- What a type is judged by does not change where a type is written that is no lower.
-use Rattle.std.proofs.Common.{◌≡◌, ◌≢◌, ℕ, ◌+◌, ◌<◌, ◌≤◌, Bool, true, false, List, [], ◌∷◌, Option, None, Some, set, slice_get, slice_index, refl, sym, ap, subst, ◌∙◌, arith}
+use Rattle.std.proofs.Common.{◌≡◌, ◌≢◌, ℕ, ◌+◌, ◌≤◌, Bool, true, false, List, [], ◌∷◌, Option, None, Some, set, slice_get, slice_index, refl, sym, ap, subst, ◌∙◌, arith}
 use Rattle.std.specs.Prelude.{All}
 use Rattle.std.proofs.lemmas.List.Elements.{All-head, All-tail, All-weaker}
 use Rattle.xs_components.specs.Tables.{Tables}
@@ -23,8 +23,7 @@ use Rattle.simple_types.specs.SimpleValidity.{made_from_both}
 use Rattle.simple_types.specs.declared.judged.TypeFacets.{TypeFacets}
 use Rattle.simple_types.specs.declared.judged.JudgedType.{JudgedType}
 use Rattle.simple_types.specs.Lookup.{entry_of, looked_up, content_of}
-use Rattle.simple_types.specs.TypeRules.{base_rules, members_rules, no_fault}
-use Rattle.simple_types.specs.Forms.{IsStepMade, members_behind, known_of_members, union_facets, IsRestrictionMade, list_made, union_made, IsFormMade, IsContentMade, without_fault}
+use Rattle.simple_types.specs.Forms.{IsStepMade, members_behind, known_of_members, list_made, union_made, IsFormMade, IsContentMade, without_fault}
 use Rattle.simple_types.specs.Judging.{Holds, IsSimpleAt, IsContentAt}
 use Rattle.simple_types.proofs.FilledLaws.{read_past}
 

@@ -1,5 +1,5 @@
 -- A type unfolds by one step, where ranks fall.
-use Rattle.std.proofs.Common.{◌≡◌, ℕ, ◌+◌, ◌<◌, Bool, true, false, List, [], ◌∷◌, Option, None, Some, map, slice_get, slice_index, refl, sym, ap, ◌∙◌, arith}
+use Rattle.std.proofs.Common.{◌≡◌, ℕ, ◌+◌, Bool, true, false, [], Option, None, Some, slice_get, slice_index, refl, ap}
 use Rattle.std.specs.Prelude.{All}
 use Rattle.std.proofs.lemmas.List.Elements.{All-head}
 use Rattle.xs_components.specs.Tables.{Tables}
@@ -16,7 +16,7 @@ use Rattle.component_references.specs.Heights.{first_height, type_height, IsLowe
 use Rattle.component_references.specs.Ranked.{named_types, IsRanked}
 use Rattle.component_references.proofs.DescentLaws.{along-is}
 use Rattle.component_references.proofs.ListLaws.{map-same}
-use Rattle.simple_types.specs.TypeTree.{TypeTree, not_simple, built_in, restriction, list_type, union_type, members_of}
+use Rattle.simple_types.specs.TypeTree.{TypeTree, not_simple, restriction, list_type, union_type, members_of}
 use Rattle.simple_types.specs.Trees.{form_tree, part_tree, simple_step, simple_tree, content_form, content_part, content_step, type_tree}
 
 module _ (t : Tables) (ranked : IsRanked t) where

@@ -1,5 +1,5 @@
 -- Where no type is at fault, the literals of every type are known.
-use Rattle.std.proofs.Common.{◌≡◌, ℕ, zero, suc, ◌+◌, ◌<◌, ◌≤◌, inl, inr, Bool, true, false, not, if◌then◌else◌, length, List, [], ◌∷◌, Option, None, Some, map, slice_get, slice_index, refl, sym, ap, subst, ◌∙◌, arith}
+use Rattle.std.proofs.Common.{◌≡◌, ℕ, zero, suc, ◌+◌, ◌<◌, inl, inr, Bool, true, false, not, if◌then◌else◌, length, List, [], ◌∷◌, Option, None, Some, map, slice_get, slice_index, refl, sym, ap, subst, ◌∙◌, arith}
 use Rattle.std.specs.Prelude.{All, is_some}
 use Rattle.std.proofs.lemmas.Bool.{false≢true, cases_lt}
 use Rattle.std.proofs.lemmas.Option.{none-some, slice_get_past}
@@ -27,15 +27,15 @@ use Rattle.facets.specs.declared.known.Known.{Known}
 use Rattle.facets.specs.declared.known.Known.TheVariants.{Whole}
 use Rattle.facets.specs.Facets.{IsStepJudged}
 use Rattle.facets.specs.Source.{list_of}
-use Rattle.simple_types.specs.TypeTree.{TypeTree, not_simple, restriction, list_type, union_type, members_of}
+use Rattle.simple_types.specs.TypeTree.{TypeTree, members_of}
 use Rattle.simple_types.specs.Trees.{form_tree, part_tree, simple_tree, content_form, content_part, type_tree}
 use Rattle.simple_types.specs.SimpleValidity.{made_from, made_from_both}
 use Rattle.simple_types.proofs.TreeLaws.{simple_tree_is, type_tree_is}
 use Rattle.simple_types.specs.declared.judged.TypeFacets.{TypeFacets}
 use Rattle.simple_types.specs.declared.judged.JudgedType.{JudgedType}
-use Rattle.simple_types.specs.Lookup.{unknown, entry_of, entry_at, looked_up, content_of}
-use Rattle.simple_types.specs.TypeRules.{no_fault, base_rules, item_rules, members_rules, is_final_for_lists}
-use Rattle.simple_types.specs.Forms.{left_behind, IsStepMade, list_facets, known_of_members, IsRestrictionMade, list_made, union_made, IsFormMade, without_fault, IsContentMade}
+use Rattle.simple_types.specs.Lookup.{entry_of, entry_at, looked_up, content_of}
+use Rattle.simple_types.specs.TypeRules.{no_fault, base_rules, item_rules, is_final_for_lists}
+use Rattle.simple_types.specs.Forms.{left_behind, IsStepMade, list_facets, known_of_members, IsFormMade, IsContentMade}
 use Rattle.simple_types.specs.Judging.{Holds, IsSimpleAt, IsContentAt, AreSimplesJudged, AreContentsJudged}
 use Rattle.simple_types.specs.declared.types.SimpleTypes.{SimpleTypes}
 use Rattle.simple_types.specs.SimpleTypes.{AreTypesOf, IsWhole, sooner_if, first_of, first_fault_of, IsSimpleTree, AreSimpleTrees}

@@ -8,6 +8,8 @@ pub mod FillLaws
 pub mod CycleLaws
 pub mod BaseLaws
 pub mod MemberLaws
+pub mod AlongLaws
+pub mod RunLaws
 pub mod ChainLaws
 pub mod InsideLaws
 pub mod SpreadLaws

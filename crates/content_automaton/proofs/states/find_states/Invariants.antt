@@ -6,6 +6,7 @@ abbrev pub invariant-loop-state : goal.invariant-loop-state
 invariant-loop-state l = record {
   states : AreStates l.form.table l.accepted l.symbols (map (λ state. state.items) l.states.keys);
   few : length l.states.keys ≤ 2048;
+  sets : length l.sets.items ≡ l.symbols;
   here : l.state ≤ length l.states.keys;
   steps : AreSteps l.form.table l.accepted l.symbols (map (λ state. state.items) l.states.keys) l.cells.items;
   cells : length l.cells.items ≡ l.state * l.symbols;

@@ -6,6 +6,7 @@ use Rattle.derive_restriction.proofs.faults.first_of_both.Goals as goal
 pub first_attr_group_fault-requires : goal.first_attr_group_fault-requires
 first_attr_group_fault-requires c = record {
   given = c.requires.known.given;
+  bases = c.requires.known.bases;
   types = subst (AreTypes c.args.set.now.parts.now) (sym c.first_restriction.ensures.same) c.requires.types;
   tables = c.requires.known.tables;
 }

@@ -1,5 +1,6 @@
 use Rattle.std.proofs.Common.{◌∙◌, sym, subst, ap}
 use Rattle.component_references.specs.Heights.{IsType}
+use Rattle.component_tables.specs.Bases.{AreLinesOf}
 use Rattle.component_tables.proofs.DeclaredLaws.{type-there}
 use Rattle.element_declarations.proofs.StandLaws.{answered, disallowed-is}
 use Rattle.element_declarations.proofs.standing.may_stand.Goals as goal
@@ -11,6 +12,9 @@ blocked-blocked-requires-clause-sub_there c =
 pub blocked-blocked-requires-clause-base_there : goal.blocked-blocked-requires-clause-base_there
 blocked-blocked-requires-clause-base_there c =
     subst (IsType c.args.parts.now) (sym (c.type_of-base.ensures.of c.args.parts.now c.requires.declarations)) (type-there c.args.parts.now c.requires.ranked c.requires.types c.args.head)
+
+pub derives-requires-clause-bases : goal.derives-requires-clause-bases
+derives-requires-clause-bases c = subst (AreLinesOf c.args.parts.now) (sym c.bases.ensures) c.requires.declarations.bases
 
 pub derives-requires-clause-sub : goal.derives-requires-clause-sub
 derives-requires-clause-sub c =

@@ -1,6 +1,5 @@
-use Rattle.std.proofs.Common.{[], ℕ, ◌+◌, ◌*◌, ◌<◌, length, get_or, sym, ap, ◌∙◌, arith}
+use Rattle.std.proofs.Common.{[], ℕ, length, get_or, sym, ap, ◌∙◌, arith}
 use Rattle.std.proofs.lemmas.Bool.{false≢true}
-use Rattle.std.proofs.lemmas.List.Elements.{All-get_or}
 use Rattle.particle_models.specs.Parts.{trees_from}
 use Rattle.particle_models.specs.declared.part.Part.TheVariants.{Leaf, Group}
 use Rattle.particle_restrict.proofs.TotalLaws.{totals-length}

@@ -1,4 +1,4 @@
-use Rattle.std.proofs.Common.{ℕ, ◌<◌, IsTrue, refl, sym, ◌∙◌, arith}
+use Rattle.std.proofs.Common.{ℕ, ◌<◌, refl, arith}
 use Rattle.std.proofs.lemmas.Bool.{false≢true}
 use Rattle.particle_restrict.proofs.Firsts.{some_more}
 use Rattle.particle_restrict.proofs.first.each_restricts_some.Goals as goal

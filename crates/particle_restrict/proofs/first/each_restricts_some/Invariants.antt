@@ -1,4 +1,4 @@
-use Rattle.std.proofs.Common.{ℕ, ◌<◌, IsTrue}
+use Rattle.std.proofs.Common.{ℕ, ◌<◌}
 use Rattle.particle_restrict.proofs.first.each_restricts_some.Given as goal
 
 abbrev pub invariant-loop-member : goal.invariant-loop-member

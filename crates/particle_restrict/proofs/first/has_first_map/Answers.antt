@@ -1,4 +1,4 @@
-use Rattle.std.proofs.Common.{◌≡◌, [], IsTrue, false, length, refl, sym, ◌∙◌, ◌<◌, arith, length-set}
+use Rattle.std.proofs.Common.{◌≡◌, [], false, length, refl, sym, ◌∙◌, ◌<◌, arith, length-set}
 use Rattle.std.proofs.lemmas.Bool.{false≢true}
 use Rattle.std.proofs.lemmas.List.{length-replicate}
 use Rattle.particle_restrict.proofs.Firsts.{taking-first, taking-more, taken-twice, none-first, none_taken, taking-done, at_place}

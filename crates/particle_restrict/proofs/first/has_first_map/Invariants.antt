@@ -1,4 +1,4 @@
-use Rattle.std.proofs.Common.{◌≡◌, ℕ, List, IsTrue, length}
+use Rattle.std.proofs.Common.{◌≡◌, ℕ, List, length}
 use Rattle.particle_restrict.proofs.Firsts.{IsTaking}
 use Rattle.particle_restrict.proofs.first.has_first_map.Given as goal
 

@@ -1,4 +1,4 @@
-use Rattle.std.proofs.Common.{◌≡◌, ◌<◌, length, arith}
+use Rattle.std.proofs.Common.{arith}
 use Rattle.particle_restrict.proofs.TotalLaws.{totals-length}
 use Rattle.particle_restrict.proofs.restriction.form_restricts.Goals as goal
 

@@ -1,4 +1,4 @@
-use Rattle.std.proofs.Common.{◌≡◌, ◌≤◌, ◌⊎◌, inl, inr, sym, get_or, ◌-◌, ◌+◌, ◌∷◌, [], ◌++◌, Bool, true, false, length, refl, ap, ◌∙◌, arith}
+use Rattle.std.proofs.Common.{◌≡◌, ◌≤◌, ◌⊎◌, inl, inr, sym, get_or, ◌-◌, ◌+◌, ◌∷◌, [], ◌++◌, true, false, length, refl, ap, ◌∙◌, arith}
 use Rattle.std.proofs.lemmas.Bool.{cases_lt, false≢true}
 use Rattle.std.proofs.lemmas.List.{length_push, length-replicate}
 use Rattle.std.specs.Prelude.{replicate}

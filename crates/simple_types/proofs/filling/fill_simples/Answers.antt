@@ -1,4 +1,4 @@
-use Rattle.std.proofs.Common.{◌≡◌, ◌<◌, length, get_or, length-set, arith, refl, ◌∙◌}
+use Rattle.std.proofs.Common.{◌<◌, length, get_or, length-set, arith, refl, ◌∙◌}
 use Rattle.std.proofs.lemmas.List.Elements.{All-get_or}
 use Rattle.simple_types.specs.Judging.{IsSimpleAt}
 use Rattle.simple_types.proofs.FilledLaws.{entries-more, entries-all}

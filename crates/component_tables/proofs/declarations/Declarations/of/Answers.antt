@@ -7,5 +7,6 @@ returns c = record {
     each = c.in_ok-types.ensures.types.each;
     types = types-known c.args.parts.now c.in_ok-types.types.items c.in_ok-types.ensures.types;
     globals = c.in_ok-globals.ensures;
+    bases = c.in_ok-bases.ensures.lines;
   };
 }

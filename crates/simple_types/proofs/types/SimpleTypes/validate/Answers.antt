@@ -1,5 +1,4 @@
-use Rattle.std.proofs.Common.{◌≡◌, ℕ, List, sym, ap, subst, ◌∙◌}
-use Rattle.xs_components.specs.declared.common.TypeId.{TypeId}
+use Rattle.std.proofs.Common.{◌≡◌, List, sym, ap, subst, ◌∙◌}
 use Rattle.xs_components.specs.declared.common.TypeId.TheVariants as types
 use Rattle.facets.specs.declared.facets.Facets.{Facets}
 use Rattle.simple_types.specs.Trees.{type_tree}

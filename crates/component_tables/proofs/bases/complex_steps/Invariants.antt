@@ -1,0 +1,5 @@
+use Rattle.component_tables.specs.inside.Runs as runs
+use Rattle.component_tables.proofs.bases.complex_steps.Given as goal
+
+abbrev pub invariant-loop-number : goal.invariant-loop-number
+invariant-loop-number l = runs.AreSteps (runs.complex_at l.parts) l.number l.steps.items

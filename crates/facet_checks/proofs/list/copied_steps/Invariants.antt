@@ -1,5 +1,0 @@
-use Rattle.std.proofs.Common.{◌≡◌, take}
-use Rattle.facet_checks.proofs.list.copied_steps.Given as goal
-
-abbrev pub invariant-loop-patterns : goal.invariant-loop-patterns
-invariant-loop-patterns l = l.copies ≡ take l.patterns-index l.steps

@@ -1,0 +1,6 @@
+//! Values that several lists share.
+#![tactic(auto)]
+
+mod shared;
+
+pub use shared::Shared;
