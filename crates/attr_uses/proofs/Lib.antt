@@ -16,3 +16,4 @@ pub mod FillLaws
 pub mod MadeLaws
 pub mod TypeLaws
 pub mod ReadLaws
+pub mod NeededLaws

@@ -7,9 +7,9 @@ ghost use Rattle.component_references.specs.Ranked.{IsRanked};
 ghost use Rattle.attr_uses.specs.Written as written;
 ghost use Rattle.attr_uses.specs.Uses as spec;
 ghost use Rattle.attr_uses.specs.Uses.{AttrUses};
-ghost use Rattle.attr_uses.specs.Tables.{StandsFor, Answers, AreTablesOf, IsTableOf, HasTwoOfOneName, HasTwoIds, IsNext, IsNextUnlike, IsWildcard, IsStore};
+ghost use Rattle.attr_uses.specs.Tables.{StandsFor, Answers, AreTablesOf, IsTableOf, HasTwoOfOneName, HasTwoIds, IsNext, AreNeeded, IsNextUnlike, IsWildcard, IsStore};
 
-use crate::UseAt;
+use crate::{NeededUse, UseAt};
 use crate::groups::Answer;
 use crate::own::uses_in;
 use crate::store::{KeptTable, Store};
@@ -127,6 +127,19 @@ impl AttrTables {
         ensures next { (t : Tables) (ids : List Bool) (value : AttrUses) → StandsFor t ids self.now.store table value → IsNext t value.uses from result }
     {
         self.store.maps.next_needed(table.uses, from)
+    }
+
+    /// The numbers of the names whose first uses are required or have a value constraint, the least first, each with that use.
+    ///
+    /// # Errors
+    ///
+    /// `AllocError` is want of memory.
+    pub fn needed(&self, alloc: Global, table: KeptTable) -> Result<Vec<NeededUse>, AllocError>
+        requires store { IsStore self.now.store }
+        requires table { (t : Tables) × (ids : List Bool) × (value : AttrUses) × StandsFor t ids self.now.store table value }
+        ensures needed { (t : Tables) (ids : List Bool) (value : AttrUses) → StandsFor t ids self.now.store table value → IfOk result (λ needed. AreNeeded t value.uses 0 needed.items) }
+    {
+        self.store.maps.needed(alloc, table.uses)
     }
 
     /// The next number of a name, from this one on, for which two tables may have different first uses: they have the same for
