@@ -2,7 +2,6 @@ pub mod GrowLaws
 pub mod MapLaws
 pub mod NodeLaws
 pub mod SumLaws
-pub mod NextLaws
 pub mod UnlikeLaws
 pub mod TwoLaws
 pub mod StepLaws

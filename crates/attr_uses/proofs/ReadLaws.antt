@@ -10,7 +10,7 @@ use Rattle.attr_uses.specs.declared.entry.UseAt.{UseAt}
 use Rattle.attr_uses.specs.declared.entry.NeededUse.{NeededUse}
 use Rattle.attr_uses.specs.Written.{has_name}
 use Rattle.attr_uses.specs.Uses.{first_of, use_named}
-use Rattle.attr_uses.specs.Tables.{entry_of, entry_for, has_another, is_id_named, is_needed_named, HasTwoOfOneName, HasTwoIds, IsNext, AreNeeded, IsNextUnlike}
+use Rattle.attr_uses.specs.Tables.{entry_of, entry_for, has_another, is_id_named, is_needed_named, HasTwoOfOneName, HasTwoIds, AreNeeded, IsNextUnlike}
 
 some-needed : (o : Option Entry) (at : UseAt) → IsSomeAnd o (λ entry. (entry.needed ≡ true) × (entry.first ≡ at)) → (entry_is (λ e. e.needed) o ≡ true) × (option_map (λ e. e.first) o ≡ Some at)
 some-needed None at is = absurd is
@@ -54,15 +54,6 @@ module _ (t : Tables) (ids : List Bool) where
       λ x. let w = told.0 x in (w.0, w.1, w.2, within w.1 w.3, sym (entry-id (filter (has_name t w.0) uses)) ∙ w.4, sym (entry-id (filter (has_name t w.1) uses)) ∙ w.5),
       λ w. told.1 (w.0, w.1, w.2, without w.1 w.3, entry-id (filter (has_name t w.0) uses) ∙ w.4, entry-id (filter (has_name t w.1) uses) ∙ w.5),
     )
-
-    pub next-needed : (from : ℕ) (next : Option ℕ) → maps.IsNext depth (entry_for t ids uses) from next → IsNext t uses from next
-    next-needed from None none = λ name a b. sym (entry-needed (filter (has_name t name) uses)) ∙ none name a (without name b)
-    next-needed from (Some name) is = record {
-      behind = is.behind;
-      within = within name is.within;
-      needed = sym (entry-needed (filter (has_name t name) uses)) ∙ is.needed;
-      none = λ other a b. sym (entry-needed (filter (has_name t other) uses)) ∙ is.none other a b;
-    }
 
     pub all-needed : (from : ℕ) (xs : List NeededUse) → maps.AreNeeded (entry_for t ids uses) from (2 ^ depth) xs → AreNeeded t uses from xs
     all-needed from [] none = λ name a b. sym (entry-needed (filter (has_name t name) uses)) ∙ none name a (without name b)

@@ -42,16 +42,6 @@ is_needed = entry_is (λ e. e.needed)
 abbrev pub NoneNeeded : (ℕ → Option Entry) → ℕ → ℕ → Type 0
 NoneNeeded entries from bound = (name : ℕ) → from ≤ name → name < bound → is_needed (entries name) ≡ false
 
-pub record IsLeast (depth : ℕ) (entries : ℕ → Option Entry) (from name : ℕ) : Type 0 where
-  pub behind : from ≤ name
-  pub within : name < 2 ^ depth
-  pub needed : is_needed (entries name) ≡ true
-  pub none : NoneNeeded entries from name
-
--- the least name from a number on whose entry is needed, if there is one
-abbrev pub IsNext : ℕ → (ℕ → Option Entry) → ℕ → Option ℕ → Type 0
-IsNext depth entries from next = MatchOption next (NoneNeeded entries from (2 ^ depth)) (IsLeast depth entries from)
-
 -- the first needed name from a number on, below another, and the first use of it
 pub record IsFirstNeeded (entries : ℕ → Option Entry) (from bound : ℕ) (one : NeededUse) : Type 0 where
   pub behind : from ≤ one.name

@@ -132,15 +132,12 @@ is_needed_named t (Some u) = is_needed t u
 abbrev pub NoneNeeded : Tables → List UseAt → ℕ → ℕ → Type 0
 NoneNeeded t uses from bound = (name : ℕ) → from ≤ name → name < bound → is_needed_named t (use_named t uses name) ≡ false
 
+-- the least number of a name, from one on, whose first use is needed
 pub record IsNextNeeded (t : Tables) (uses : List UseAt) (from name : ℕ) : Type 0 where
   pub behind : from ≤ name
   pub within : name < 2 ^ 32
   pub needed : is_needed_named t (use_named t uses name) ≡ true
   pub none : NoneNeeded t uses from name
-
--- the least number of a name, from a number on, whose first use is needed, if there is one
-abbrev pub IsNext : Tables → List UseAt → ℕ → Option ℕ → Type 0
-IsNext t uses from next = MatchOption next (NoneNeeded t uses from (2 ^ 32)) (IsNextNeeded t uses from)
 
 -- the numbers, from one on, of all names whose first uses are needed, the least first, and the first use of each
 abbrev pub AreNeeded : Tables → List UseAt → ℕ → List NeededUse → Type 0

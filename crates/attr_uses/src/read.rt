@@ -1,7 +1,7 @@
 ghost use Rattle.std.specs.Prelude.{◌≡◌, ℕ, ◌+◌, ◌^◌, ◌<◌, ◌≤◌, ◌↔◌, Option, length, IsTrue, IfSome, true, IfOk, OnOk};
 ghost use Rattle.std.specs.Option.{option_map};
 ghost use Rattle.attr_uses.specs.Nodes.{find, IsMap, AreNodes};
-ghost use Rattle.attr_uses.specs.Maps.{IsMapOf, SomeIs, TwoAre, IsNext, AreNeeded, ArePut, IsNextUnlike};
+ghost use Rattle.attr_uses.specs.Maps.{IsMapOf, SomeIs, TwoAre, AreNeeded, ArePut, IsNextUnlike};
 ghost use Rattle.attr_uses.specs.declared.entry.Entry.{Entry};
 
 use crate::grow::half_of;
@@ -32,14 +32,6 @@ impl UseMaps {
         ensures two { (has : ℕ → Option Entry) → IsMapOf self.now map.top has → IsTrue result ↔ TwoAre self.now.depth (λ e. e.id) has }
     {
         node_of(&self.nodes, map.top).sum().two_ids
-    }
-
-    /// The least name from this number on whose first use is needed.
-    pub fn next_needed(&self, map: UseMap, from: u32) -> Option<u32>
-        requires map { (has : ℕ → Option Entry) × IsMapOf self.now map.top has }
-        ensures next { (has : ℕ → Option Entry) → IsMapOf self.now map.top has → IsNext self.now.depth has from result }
-    {
-        next_under(&self.nodes, self.depth, map.top, from)
     }
 
     /// The names whose first uses are needed, the least first, each with that use.
@@ -89,32 +81,6 @@ fn entry_under(nodes: &[Node], depth: u32, top: u32, name: u32) -> Option<Entry>
         }
     }
     node_of(nodes, at).entry()
-}
-
-// The least needed name from this number on, below a node of so many levels.
-fn next_under(nodes: &[Node], levels: u32, at: u32, from: u32) -> Option<u32>
-    requires nodes { AreNodes nodes.now }
-    requires levels { levels ≤ 32 }
-    requires there { at < length nodes.now }
-    requires shape { IsMap nodes.now levels at }
-    ensures next { IsNext levels (find nodes.now levels at) from result }
-{
-    let node = node_of(nodes, at);
-    if !node.sum().needed {
-        return None;
-    }
-    if levels == 0 {
-        return if from == 0 { Some(0) } else { None };
-    }
-    let half = half_of(levels - 1);
-    let (left, right) = node.sides();
-    if from >= half {
-        return beyond(half, next_under(nodes, levels - 1, right, from - half));
-    }
-    match next_under(nodes, levels - 1, left, from) {
-        Some(name) => Some(name),
-        None => beyond(half, next_under(nodes, levels - 1, right, 0)),
-    }
 }
 
 // Puts the needed names below a node of so many levels at the end, the least first, with their first uses. The names below it

@@ -7,7 +7,7 @@ ghost use Rattle.component_references.specs.Ranked.{IsRanked};
 ghost use Rattle.attr_uses.specs.Written as written;
 ghost use Rattle.attr_uses.specs.Uses as spec;
 ghost use Rattle.attr_uses.specs.Uses.{AttrUses};
-ghost use Rattle.attr_uses.specs.Tables.{StandsFor, Answers, AreTablesOf, IsTableOf, HasTwoOfOneName, HasTwoIds, IsNext, AreNeeded, IsNextUnlike, IsWildcard, IsStore};
+ghost use Rattle.attr_uses.specs.Tables.{StandsFor, Answers, AreTablesOf, IsTableOf, HasTwoOfOneName, HasTwoIds, AreNeeded, IsNextUnlike, IsWildcard, IsStore};
 
 use crate::{NeededUse, UseAt};
 use crate::groups::Answer;
@@ -90,7 +90,7 @@ impl AttrTables {
         self.use_numbered(table, name.number())
     }
 
-    /// The first use of the name of this number, as [`AttrTables::next_needed`] answers it.
+    /// The first use of the name of this number, as [`AttrTables::next_unlike`] answers it.
     pub fn use_numbered(&self, table: KeptTable, name: u32) -> Option<UseAt>
         requires store { IsStore self.now.store }
         requires table { (t : Tables) × (ids : List Bool) × (value : AttrUses) × StandsFor t ids self.now.store table value }
@@ -118,15 +118,6 @@ impl AttrTables {
         ensures two { (t : Tables) (ids : List Bool) (value : AttrUses) → StandsFor t ids self.now.store table value → IsTrue result ↔ HasTwoIds t ids value.uses }
     {
         self.store.maps.has_two_ids(table.uses)
-    }
-
-    /// The least number of a name, from a number on, whose first use is required or has a value constraint.
-    pub fn next_needed(&self, table: KeptTable, from: u32) -> Option<u32>
-        requires store { IsStore self.now.store }
-        requires table { (t : Tables) × (ids : List Bool) × (value : AttrUses) × StandsFor t ids self.now.store table value }
-        ensures next { (t : Tables) (ids : List Bool) (value : AttrUses) → StandsFor t ids self.now.store table value → IsNext t value.uses from result }
-    {
-        self.store.maps.next_needed(table.uses, from)
     }
 
     /// The numbers of the names whose first uses are required or have a value constraint, the least first, each with that use.
