@@ -8,7 +8,7 @@ ghost use Rattle.xpath_subset.specs.Reaches.{expanded_name};
 ghost use Rattle.xpath_subset.specs.Reached as paths;
 ghost use Rattle.identity_constraints.specs.Targets as spec;
 ghost use Rattle.identity_constraints.specs.Seen.{KeyForest};
-ghost use Rattle.path_walk.specs.Sight.{IsNamed, attributes_of, seen};
+ghost use Rattle.path_walk.specs.Sight.{IsNamed, seen};
 ghost use Rattle.path_walk.specs.inside.Nodes.{AreAdded};
 ghost use Rattle.path_walk.specs.inside.Walk.{reached};
 
