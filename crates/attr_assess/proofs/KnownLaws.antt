@@ -110,7 +110,7 @@ module _ (t : Tables) where
       let part = subst (λ (o : Option AttrUse). IsSomeAnd o (λ part. (part.attribute ≡ added.attribute) × (effective_constraint t part ≡ Some added.constraint.now))) known.is_part written.part in
       let own : use_name t added.at ≡ Some known.decl.name =
       ap (λ (o : Option AttrUse). option_and_then (λ (part : AttrUse). option_map (λ (decl : AttributeDecl). decl.name) (slice_get t.attributes.parts part.attribute)) o) known.is_part
-          ∙ ap (λ (o : Option AttributeDecl). option_map (λ (decl : AttributeDecl). decl.name) o) known.is_decl in
+      ∙ ap (λ (o : Option AttributeDecl). option_map (λ (decl : AttributeDecl). decl.name) o) known.is_decl in
       let name : known.decl.name ≡ added.name = same_Some known.decl.name added.name (sym own ∙ written.name) in
       let constraint : known.constraint ≡ added.constraint.now = same_Some known.constraint added.constraint.now (sym known.is_constraint ∙ part.1) in
       subst (λ (n : ℕ). IsAttrJudged t n Schema added.constraint.now.scope added.constraint.now.text (Declared added.attribute (Some added.at)) judged) name

@@ -115,7 +115,13 @@ fn known_by(
     ensures same { types.new ≡ types.old }
 {
     let mut known = Listed::new(alloc);
-    'uses: while let Some(found) = written_use(parts, UseAt { holder, place: known.len() }) {
+    'uses: while let Some(found) = written_use(
+        parts,
+        UseAt {
+            holder,
+            place: known.len(),
+        },
+    ) {
         let added = added_by(alloc, parts, types, &found)?;
         known.push(added)?;
     }

@@ -113,11 +113,7 @@ fn needed_under(
 }
 
 // Puts a name with the first use of its entry at the end, if it has one.
-fn put_entry(
-    found: Option<Entry>,
-    name: u32,
-    needed: &mut Vec<NeededUse>,
-) -> Result<(), AllocError>
+fn put_entry(found: Option<Entry>, name: u32, needed: &mut Vec<NeededUse>) -> Result<(), AllocError>
     requires needed { IfSome found (λ entry. entry.needed ≡ true) }
     ensures put { OnOk result (ArePut (λ key. found) 0 name needed.old.items needed.new.items) }
 {

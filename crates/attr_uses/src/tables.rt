@@ -9,10 +9,10 @@ ghost use Rattle.attr_uses.specs.Uses as spec;
 ghost use Rattle.attr_uses.specs.Uses.{AttrUses};
 ghost use Rattle.attr_uses.specs.Tables.{StandsFor, Answers, AreTablesOf, IsTableOf, HasTwoOfOneName, HasTwoIds, AreNeeded, IsNextUnlike, IsWildcard, IsStore};
 
-use crate::{NeededUse, UseAt};
 use crate::groups::Answer;
 use crate::own::uses_in;
 use crate::store::{KeptTable, Store};
+use crate::{NeededUse, UseAt};
 use std::alloc::{AllocError, Global};
 use xs_codes::Fault;
 use xs_components::{AttrGroupId, AttrUse, Components, TypeId, Wildcard};

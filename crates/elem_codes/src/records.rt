@@ -97,7 +97,11 @@ pub(crate) fn validity_of(codes: &Codes, strictly: bool, below: bool) -> Validit
 }
 
 /// [validation attempted], by whether the element is strictly assessed, and by what is below it.
-pub(crate) fn attempted_of(strictly: bool, attrs: &[Shared<AttrRecord>], counts: &ChildCounts) -> Attempted
+pub(crate) fn attempted_of(
+    strictly: bool,
+    attrs: &[Shared<AttrRecord>],
+    counts: &ChildCounts,
+) -> Attempted
     ensures { result ≡ spec.attempted_of strictly attrs.now counts.now }
 {
     if strictly {

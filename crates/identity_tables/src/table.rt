@@ -63,7 +63,11 @@ impl DocumentIds {
     /// # Errors
     ///
     /// As those of `add_value`.
-    pub fn add_values(&mut self, bearer: u32, values: &[Shared<Option<Value>>]) -> Result<(), AllocError>
+    pub fn add_values(
+        &mut self,
+        bearer: u32,
+        values: &[Shared<Option<Value>>],
+    ) -> Result<(), AllocError>
         ensures { OnOk result ((atoms : List BorneAtom) → IsTableOf self.old atoms → IsTableOf self.new (atoms ++ spec.borne_in_all bearer values.now)) }
     {
         for value in values {

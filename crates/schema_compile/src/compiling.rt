@@ -40,11 +40,7 @@ fn joined(set: CompiledSet, whole: Faultless, known_uses: KnownUses) -> Compiled
 }
 
 // A set without a fault, with what was found of it.
-fn accepted(
-    alloc: Global,
-    mut set: CompiledSet,
-    whole: Faultless,
-) -> Result<Outcome, AllocError>
+fn accepted(alloc: Global, mut set: CompiledSet, whole: Faultless) -> Result<Outcome, AllocError>
     requires fit { IsFit set }
     requires judged { inside.IsJudged set (Ok whole) }
     ensures { IfOk result (spec.IsSetOutcome set) }

@@ -32,11 +32,22 @@ pub needed_under-requires : goal.needed_under-requires
 needed_under-requires t c =
     let left' = ap (λ p. p.0) c.sides-left.ensures ∙ ap node_left c.node_of-node.ensures in
     let right' = ap (λ p. p.1) c.sides-left.ensures ∙ ap node_right c.node_of-node.ensures in
-    let ns = c.args.nodes.now in
-    (omega arith, (c.requires.nodes, (omega arith, (
-    left-there ns c.requires.nodes c.args.levels c.args.at c.requires.there c.requires.shape (omega arith) c.sides-left.result.0 c.sides-left.result.1 left' right', (
-    left-map ns c.requires.nodes c.args.levels c.args.at c.requires.there c.requires.shape (omega arith) c.sides-left.result.0 c.sides-left.result.1 left' right',
-    lower-within c.args.levels c.args.from c.half_of-half.result (omega arith) c.half_of-half.ensures c.requires.within)))))
+    let ns = c.args.nodes.now in (
+      omega arith,
+      (
+        c.requires.nodes,
+        (
+          omega arith,
+          (
+            left-there ns c.requires.nodes c.args.levels c.args.at c.requires.there c.requires.shape (omega arith) c.sides-left.result.0 c.sides-left.result.1 left' right',
+            (
+              left-map ns c.requires.nodes c.args.levels c.args.at c.requires.there c.requires.shape (omega arith) c.sides-left.result.0 c.sides-left.result.1 left' right',
+              lower-within c.args.levels c.args.from c.half_of-half.result (omega arith) c.half_of-half.ensures c.requires.within,
+            ),
+          ),
+        ),
+      ),
+    )
 
 pub overflow_add-from : goal.overflow_add-from
 overflow_add-from t c = omega (arith, upper-start c.args.levels c.args.from c.half_of-half.result (omega arith) c.half_of-half.ensures c.requires.within)
@@ -45,11 +56,22 @@ pub needed_under-requires-2 : goal.needed_under-requires-2
 needed_under-requires-2 t c =
     let left' = ap (λ p. p.0) c.sides-left.ensures ∙ ap node_left c.node_of-node.ensures in
     let right' = ap (λ p. p.1) c.sides-left.ensures ∙ ap node_right c.node_of-node.ensures in
-    let ns = c.args.nodes.now in
-    (omega arith, (c.requires.nodes, (omega arith, (
-    right-there ns c.requires.nodes c.args.levels c.args.at c.requires.there c.requires.shape (omega arith) c.sides-left.result.0 c.sides-left.result.1 left' right', (
-    right-map ns c.requires.nodes c.args.levels c.args.at c.requires.there c.requires.shape (omega arith) c.sides-left.result.0 c.sides-left.result.1 left' right',
-    upper-within c.args.levels c.args.from c.half_of-half.result (omega arith) c.half_of-half.ensures c.requires.within)))))
+    let ns = c.args.nodes.now in (
+      omega arith,
+      (
+        c.requires.nodes,
+        (
+          omega arith,
+          (
+            right-there ns c.requires.nodes c.args.levels c.args.at c.requires.there c.requires.shape (omega arith) c.sides-left.result.0 c.sides-left.result.1 left' right',
+            (
+              right-map ns c.requires.nodes c.args.levels c.args.at c.requires.there c.requires.shape (omega arith) c.sides-left.result.0 c.sides-left.result.1 left' right',
+              upper-within c.args.levels c.args.from c.half_of-half.result (omega arith) c.half_of-half.ensures c.requires.within,
+            ),
+          ),
+        ),
+      ),
+    )
 
 pub returns : goal.returns
 returns t c =

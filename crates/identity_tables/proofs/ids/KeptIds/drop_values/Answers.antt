@@ -12,7 +12,7 @@ drop_value-requires c =
     let rest = borne_in_all c.args.bearer (drop (c.loop-value.value-index + 1) c.args.values.now) ++ c.requires.0 in (
       rest,
       subst (λ (v : Option Value). IsTableOf c.loop-value.self (borne_in c.args.bearer v ++ rest)) (sym c.get.ensures)
-      (subst (IsTableOf c.loop-value.self) first (c.loop-value.invariant c.requires.0 c.requires.1)),
+          (subst (IsTableOf c.loop-value.self) first (c.loop-value.invariant c.requires.0 c.requires.1)),
     )
 
 pub loop-value-preserved : goal.loop-value-preserved
