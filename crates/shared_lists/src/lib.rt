@@ -2,5 +2,9 @@
 #![tactic(auto)]
 
 mod shared;
+mod trees;
+mod walks;
 
 pub use shared::Shared;
+pub use trees::SharedTree;
+pub use walks::{Groups, Leaves};
