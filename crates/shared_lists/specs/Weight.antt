@@ -1,7 +1,7 @@
 -- How much is left to let go of.
 use Rattle.std.specs.Prelude.{ℕ, ◌+◌, ◌*◌, Option, None, Some}
 use Rattle.std.specs.declared.alloc.Global.{Global}
-use Rattle.std.specs.Prelude.{Rc}
+use Rattle.std.specs.declared.rc.Rc.{Rc}
 use Rattle.shared_lists.specs.declared.trees.Node.{Node}
 use Rattle.shared_lists.specs.declared.trees.Node.TheVariants.{Empty, Leaf, Both', Group'}
 

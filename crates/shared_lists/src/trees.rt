@@ -54,6 +54,7 @@ impl<T: Drop, L: Drop> SharedTree<T, L> {
     }
 
     /// The leaves of this tree, and then those of another; both are shared.
+    #[tactic(auto, using(crate::proofs::Moving::nothing_behind, crate::proofs::Moving::nothing_before))]
     pub fn joined(&self, second: &SharedTree<T, L>) -> Result<SharedTree<T, L>, AllocError>
         ensures { IfOk result (λ tree. tree ≡ spec.joined self.now second.now) }
     {

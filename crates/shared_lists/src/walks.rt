@@ -51,6 +51,7 @@ impl<'a, T, L> Leaves<'a, T, L> {
 }
 
 // The first leaf of these branches, the first of them last.
+#[tactic(auto, using(crate::proofs::Moving::reverse_more))]
 fn next_leaf<'a, T, L>(ahead: &mut Vec<&'a Node<T, L>>) -> Result<Option<&'a T>, AllocError>
     ensures { IfOk result (λ found. spec.IsNextLeaf (reverse ahead.old.items) (reverse ahead.new.items) found) }
 {
@@ -114,6 +115,7 @@ impl<'a, T, L> Groups<'a, T, L> {
         }
     }
 
+    #[tactic(auto, using(crate::proofs::Moving::begun))]
     pub(crate) fn below(alloc: Global, node: &'a Node<T, L>) -> Result<Groups<'a, T, L>, AllocError>
         ensures { IfOk result (λ walk. walk ≡ spec.groups node.now) }
     {
@@ -131,6 +133,7 @@ impl<'a, T, L> Groups<'a, T, L> {
 }
 
 // The first group of these steps, the first of them last, behind so many leaves.
+#[tactic(auto, using(crate::proofs::Moving::reverse_more))]
 fn next_group<'a, T, L>(
     ahead: &mut Vec<Step<'a, T, L>>,
     passed: &mut usize,
