@@ -1,7 +1,7 @@
 -- A type that is put behind the members of a union, laid out.
 use Rattle.std.proofs.Common.{◌≡◌, refl, sym, ap, ◌∙◌, ℕ, ◌+◌, List, [], ◌∷◌, ◌++◌, length, map, append_assoc, length-append, arith}
 use Rattle.std.proofs.lemmas.List.{append-nil, map-append}
-use Rattle.shared_lists.specs.Trees.{Group, Grouped, group, moved_group, moved_on, one_leaf, joined, grouped}
+use Rattle.shared_lists.specs.Trees.{Group, Grouped, group, moved_group, moved_on, run, joined, grouped}
 use Rattle.facet_checks.specs.declared.list.FacetList.{FacetList}
 use Rattle.facets.specs.declared.members.Gate.{Gate}
 use Rattle.facets.specs.declared.members.Member.{Member}
@@ -21,8 +21,9 @@ gates_move by [] = refl
 gates_move by (one ∷ groups) = ap (λ more. gate_of (moved_group by one) ∷ more) (gates_move by groups)
 
 module _ (all : Grouped Member FacetList) where
-  pub one_with : (one : Member) → members_of (joined all (one_leaf one)) ≡ record { members = all.leaves ++ one ∷ []; gates = map gate_of all.groups }
-  one_with one = λ i. record { members = all.leaves ++ one ∷ []; gates = map gate_of (append-nil all.groups i) }
+  pub one_with : (before : List Member) (one : Member)
+      → members_of (joined all (run (before ++ one ∷ []))) ≡ record (members_of (joined all (run before))) { members = (all.leaves ++ before) ++ one ∷ [] }
+  one_with before one = λ i. record { members = append_assoc all.leaves before (one ∷ []) (~ i); gates = map gate_of (all.groups ++ []) }
 
   module _ (others : Grouped Member FacetList) (list : FacetList) where
     last : Group FacetList
@@ -47,5 +48,7 @@ module _ (all : Grouped Member FacetList) where
         ∙ ap (λ more. map gate_of all.groups ++ more) own
         ∙ sym (append_assoc (map gate_of all.groups) (gates_on (length all.leaves) (map gate_of others.groups)) (gate (length all.leaves) (length (all.leaves ++ others.leaves)) list ∷ []))
 
-    pub union_with : members_of (joined all (grouped others list)) ≡ with_union (members_of all) (members_of others) list
-    union_with = λ i. record { members = all.leaves ++ others.leaves; gates = gates_with i }
+    pub union_with : members_of (joined (joined all (grouped others list)) (run [])) ≡ with_union (members_of all) (members_of others) list
+    union_with =
+        (λ i. record { members = append-nil (all.leaves ++ others.leaves) i; gates = map gate_of (append-nil (joined all (grouped others list)).groups i) })
+        ∙ (λ i. record { members = all.leaves ++ others.leaves; gates = gates_with i })

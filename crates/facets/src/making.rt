@@ -5,7 +5,7 @@ ghost use Rattle.facets.specs.declared.members.Source.TheVariants.{Literals};
 
 use crate::Facets;
 use crate::members::{
-    Choices, Gate, Literals, Member, Members, Plain, Source, gates_of, same_literals,
+    Choices, Gate, Literals, Member, Members, Plain, Source, Union, gates_of, same_literals,
 };
 use facet_checks::{FacetList, Handling, Shared};
 use shared_lists::SharedTree;
@@ -21,7 +21,8 @@ impl Members {
         ensures { result ≡ spec.no_members }
     {
         Members {
-            parts: SharedTree::new(alloc),
+            front: SharedTree::new(alloc),
+            run: Listed::new(alloc),
         }
     }
 
@@ -30,43 +31,54 @@ impl Members {
         ensures { IfOk result (λ all. all ≡ spec.with_member self member.now) }
     {
         match &member.source {
-            Source::Literals(literals) => with_one(alloc, &self, literals, &member.list),
-            Source::Union(others) => with_union(alloc, &self, others.get(), &member.list),
+            Source::Literals(literals) => with_one(alloc, self, literals, &member.list),
+            Source::Union(others) => with_union(alloc, self, others, &member.list),
         }
+    }
+
+    /// The union of these members.
+    pub(crate) fn finished(self, alloc: Global) -> Result<Union, AllocError>
+        ensures { IfOk result (λ union_of. union_of ≡ self) }
+    {
+        let Members { front, run } = self;
+        let run = SharedTree::run(alloc, run.into_vec())?;
+        Ok(Union {
+            parts: front.joined(&run)?,
+        })
     }
 }
 
 #[tactic(auto, using(crate::proofs::Laying::one_with))]
 fn with_one(
     alloc: Global,
-    all: &Members,
+    all: Members,
     literals: &Literals,
     list: &FacetList,
 ) -> Result<Members, AllocError>
-    ensures { IfOk result (λ made. made ≡ spec.with_source all.now (Literals literals.now) list.now) }
+    ensures { IfOk result (λ made. made ≡ spec.with_source all (Literals literals.now) list.now) }
 {
-    let one = Member {
+    let Members { front, mut run } = all;
+    run.push(Member {
         literals: same_literals(literals)?,
         list: shared_list(alloc, list)?,
-    };
-    let parts = SharedTree::leaf(alloc, one)?;
-    Ok(Members {
-        parts: all.parts.joined(&parts)?,
-    })
+    })?;
+    Ok(Members { front, run })
 }
 
 #[tactic(auto, using(crate::proofs::Laying::union_with))]
 fn with_union(
     alloc: Global,
-    all: &Members,
-    others: &Members,
+    all: Members,
+    others: &Union,
     list: &FacetList,
 ) -> Result<Members, AllocError>
-    ensures { IfOk result (λ made. made ≡ spec.with_union all.now others.now list.now) }
+    ensures { IfOk result (λ made. made ≡ spec.with_union all others.now list.now) }
 {
-    let parts = others.parts.grouped(shared_list(alloc, list)?)?;
+    let front = all.finished(alloc)?;
+    let group = others.parts.grouped(shared_list(alloc, list)?)?;
     Ok(Members {
-        parts: all.parts.joined(&parts)?,
+        front: front.parts.joined(&group)?,
+        run: Listed::new(alloc),
     })
 }
 
@@ -96,7 +108,7 @@ pub(crate) fn choices_of(alloc: Global, item: &Facets) -> Result<Option<Choices>
 {
     match &item.source {
         Source::Literals(literals) => choice_of_one(alloc, literals, &item.list),
-        Source::Union(members) => choice_of_union(alloc, members.get(), &item.list),
+        Source::Union(members) => choice_of_union(alloc, members, &item.list),
     }
 }
 
@@ -124,7 +136,7 @@ fn choice_of_one(
 #[tactic(auto, using(crate::proofs::Laying::gates_stay))]
 fn choice_of_union(
     alloc: Global,
-    members: &Members,
+    members: &Union,
     list: &FacetList,
 ) -> Result<Option<Choices>, AllocError>
     ensures { IfOk result (λ choices. choices ≡ spec.choice_of_union members.now list.now) }
@@ -145,7 +157,7 @@ fn choice_of_union(
 }
 
 // The members as types that are derived from built-in atomic ones, if they all are.
-fn plains_of(alloc: Global, union_of: &Members) -> Result<Option<Listed<Plain>>, AllocError>
+fn plains_of(alloc: Global, union_of: &Union) -> Result<Option<Listed<Plain>>, AllocError>
     ensures { IfOk result (λ plains. plains ≡ spec.plains_behind [] union_of.now.members) }
 {
     let mut plains = Listed::new(alloc);

@@ -49,18 +49,34 @@ pub struct Member {
     pub(crate) list: Shared<FacetList>,
 }
 
-/// The members of a union, those of its unions among them (Structures 3.14.1): each tries a text in turn, and the first that
-/// accepts it decides. Contracts see them as one list, with a gate for each union among them; here a union that is a member is
-/// shared with its own type.
+/// The members of a union that is made, those of its unions among them (Structures 3.14.1): each tries a text in turn, and the
+/// first that accepts it decides. Contracts see them as one list, with a gate for each union among them.
 #[derive(Drop)]
 pub struct Members {
+    // Those up to the last union among them, and those behind it.
+    pub(crate) front: UnionParts,
+    pub(crate) run: Listed<Member>,
+}
+
+impl Model for Members {
+    ghost use Rattle.facets.specs.UnionMembers.{Members, members_of};
+    ghost use Rattle.shared_lists.specs.Trees.{joined, run as in_a_run};
+
+    ghost Value = { Members };
+
+    ghost view = { λ all. members_of (joined all.front (in_a_run all.run)) };
+}
+
+/// A union, seen as its members. A union that is a member is shared with its own type.
+#[derive(Drop)]
+pub struct Union {
     pub(crate) parts: UnionParts,
 }
 
 /// The members of a union, in groups by the unions among them, with the facets of these.
 pub(crate) type UnionParts = SharedTree<Member, Shared<FacetList>>;
 
-impl Model for Members {
+impl Model for Union {
     ghost use Rattle.facets.specs.UnionMembers.{Members, members_of};
 
     ghost Value = { Members };
@@ -68,11 +84,22 @@ impl Model for Members {
     ghost view = { λ union_of. members_of union_of.parts };
 }
 
+impl Union {
+    /// The same union, which is shared.
+    pub(crate) fn try_clone(&self) -> Result<Union, AllocError>
+        ensures { IfOk result (λ copy. copy ≡ self.now) }
+    {
+        Ok(Union {
+            parts: self.parts.try_clone()?,
+        })
+    }
+}
+
 /// What the literals of a type are.
 #[derive(Drop)]
 pub enum Source {
     Literals(Literals),
-    Union(Shared<Members>),
+    Union(Union),
 }
 
 impl Source {
@@ -119,7 +146,7 @@ pub(crate) fn same_literals(literals: &Literals) -> Result<Literals, AllocError>
 }
 
 /// The gates of a union; their facets are shared.
-pub(crate) fn gates_of(alloc: Global, union_of: &Members) -> Result<Listed<Gate>, AllocError>
+pub(crate) fn gates_of(alloc: Global, union_of: &Union) -> Result<Listed<Gate>, AllocError>
     ensures { IfOk result (λ gates. gates ≡ union_of.now.gates) }
 {
     let mut gates = Listed::new(alloc);

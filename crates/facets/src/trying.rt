@@ -4,7 +4,7 @@ ghost use Rattle.facets.specs.Trying as spec;
 
 use crate::Accepted;
 use crate::atomic::{MOST_ITEMS, judged_value, read_atomic, way_of};
-use crate::members::{Choices, Gate, Literals, Member, Members, Plain, gates_of};
+use crate::members::{Choices, Gate, Literals, Member, Plain, Union, gates_of};
 use facet_checks::FacetList;
 use simple_values::{Atoms, TypedAtom, Value};
 use std::alloc::{AllocError, Global};
@@ -18,7 +18,7 @@ pub(crate) type Outcome = Result<Accepted, Code>;
 /// the trial (Structures 3.14.4).
 pub(crate) fn read_union(
     alloc: Global,
-    union_of: &Members,
+    union_of: &Union,
     text: &str,
     scope: &Scope,
 ) -> Result<Outcome, AllocError>
@@ -56,7 +56,7 @@ fn one_more(index: usize) -> Result<usize, AllocError>
 fn turn_among(
     alloc: Global,
     read: Outcome,
-    union_of: &Members,
+    union_of: &Union,
     index: usize,
     start: usize,
 ) -> Result<Turn, AllocError>

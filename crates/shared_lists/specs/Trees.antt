@@ -2,7 +2,7 @@
 use Rattle.std.specs.Prelude.{ℕ, ◌+◌, List, [], ◌∷◌, ◌++◌, length, map, Option, None, Some}
 use Rattle.std.specs.Borrow.{Bor}
 use Rattle.shared_lists.specs.declared.trees.Node.{Node}
-use Rattle.shared_lists.specs.declared.trees.Node.TheVariants.{Empty, Leaf, Both', Group'}
+use Rattle.shared_lists.specs.declared.trees.Node.TheVariants.{Empty, Run, Both', Group'}
 
 -- the leaves from an index and before another, and the label that they have
 pub record Group (L : Type 0) : Type 0 where
@@ -30,8 +30,8 @@ module _ {T L : Type 0} where
   abbrev pub no_leaves : Grouped T L
   no_leaves = record { leaves = []; groups = [] }
 
-  abbrev pub one_leaf : T → Grouped T L
-  one_leaf value = record { leaves = value ∷ []; groups = [] }
+  abbrev pub run : List T → Grouped T L
+  run values = record { leaves = values; groups = [] }
 
   -- the leaves of the first, and then those of the second
   abbrev pub joined : Grouped T L → Grouped T L → Grouped T L
@@ -46,7 +46,7 @@ module _ {T L : Type 0} where
 
   abbrev pub laid : Node T L → Grouped T L
   laid Empty = no_leaves
-  laid (Leaf value) = one_leaf value
+  laid (Run values) = run values.items
   laid (Both' p first q second) = joined (laid first) (laid second)
   laid (Group' p tree label) = grouped (laid tree) label
 

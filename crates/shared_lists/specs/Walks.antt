@@ -3,7 +3,9 @@ use Rattle.std.specs.Prelude.{◌≡◌, ℕ, ◌+◌, ◌*◌, List, [], ◌∷
 use Rattle.std.specs.List.{flat_map}
 use Rattle.std.specs.Borrow.{Bor}
 use Rattle.shared_lists.specs.declared.trees.Node.{Node}
-use Rattle.shared_lists.specs.declared.trees.Node.TheVariants.{Empty, Leaf, Both', Group'}
+use Rattle.shared_lists.specs.declared.trees.Node.TheVariants.{Empty, Run, Both', Group'}
+use Rattle.shared_lists.specs.declared.walks.Ahead.{Ahead}
+use Rattle.shared_lists.specs.declared.walks.Ahead.TheVariants.{Branch as InBranch, Run as InRun}
 use Rattle.shared_lists.specs.declared.walks.Step.{Step}
 use Rattle.shared_lists.specs.declared.walks.Step.TheVariants.{Branch, End}
 use Rattle.shared_lists.specs.declared.walks.Group.{Group as Passed}
@@ -17,25 +19,27 @@ module _ {T L : Type 0} where
   abbrev pub leaves : Node T L → List T
   leaves node = (laid node).leaves
 
-  abbrev pub leaves_of : List (Bor (Node T L)) → List T
+  abbrev pub leaves_of : List (Ahead T L) → List T
   leaves_of [] = []
-  leaves_of (node ∷ nodes) = leaves node.now ++ leaves_of nodes
+  leaves_of (InBranch node ∷ ahead) = leaves node.now ++ leaves_of ahead
+  leaves_of (InRun values ∷ ahead) = values.now ++ leaves_of ahead
 
-  -- the next leaf, and the branches behind it
-  abbrev pub IsNextLeaf : List (Bor (Node T L)) → List (Bor (Node T L)) → Option (Bor T) → Type 0
+  -- the next leaf, and what is behind it
+  abbrev pub IsNextLeaf : List (Ahead T L) → List (Ahead T L) → Option (Bor T) → Type 0
   IsNextLeaf ahead left found =
       MatchOption found ((leaves_of ahead ≡ []) × (leaves_of left ≡ [])) (λ leaf. leaves_of ahead ≡ leaf.now ∷ leaves_of left)
 
   -- how many branches there are below
   abbrev pub branches : Node T L → ℕ
   branches Empty = 1
-  branches (Leaf value) = 1
+  branches (Run values) = 1
   branches (Both' p first q second) = branches first + branches second + 1
   branches (Group' p tree label) = branches tree + 1
 
-  abbrev pub branches_of : List (Bor (Node T L)) → ℕ
+  abbrev pub branches_of : List (Ahead T L) → ℕ
   branches_of [] = 0
-  branches_of (node ∷ nodes) = branches node.now + branches_of nodes
+  branches_of (InBranch node ∷ ahead) = 2 * branches node.now + branches_of ahead
+  branches_of (InRun values ∷ ahead) = 1 + branches_of ahead
 
   abbrev pub groups : Node T L → List (Group L)
   groups node = (laid node).groups

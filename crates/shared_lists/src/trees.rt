@@ -13,7 +13,7 @@ use std::rc::Rc;
 #[derive(Drop)]
 pub(crate) enum Node<T, L> {
     Empty,
-    Leaf(T),
+    Run(Vec<T>),
     Both(Rc<Node<T, L>>, Rc<Node<T, L>>),
     Group(Rc<Node<T, L>>, L),
 }
@@ -42,11 +42,14 @@ impl<T: Drop, L: Drop> SharedTree<T, L> {
         SharedTree { alloc, root: None }
     }
 
-    /// One leaf. Where memory is wanting, the value is dropped.
-    pub fn leaf(alloc: Global, value: T) -> Result<SharedTree<T, L>, AllocError>
-        ensures { IfOk result (λ tree. tree ≡ spec.one_leaf value) }
+    /// These leaves, in no group. Where memory is wanting, the values are dropped.
+    pub fn run(alloc: Global, values: Vec<T>) -> Result<SharedTree<T, L>, AllocError>
+        ensures { IfOk result (λ tree. tree ≡ spec.run values.items) }
     {
-        let root = Rc::new(alloc, Node::Leaf(value))?;
+        if values.is_empty() {
+            return Ok(SharedTree::new(alloc));
+        }
+        let root = Rc::new(alloc, Node::Run(values))?;
         Ok(SharedTree {
             alloc,
             root: Some(root),
@@ -175,7 +178,7 @@ fn let_one_go<T: Drop, L: Drop>(
     match Rc::into_inner(branch) {
         Some(Node::Both(first, second)) => Some((first, behind(alloc, second, waiting))),
         Some(Node::Group(tree, _label)) => Some((tree, waiting)),
-        Some(Node::Leaf(_value)) => taken(waiting),
+        Some(Node::Run(_values)) => taken(waiting),
         _ => taken(waiting),
     }
 }

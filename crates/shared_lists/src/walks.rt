@@ -9,8 +9,15 @@ use std::marker::Model;
 /// The leaves of a tree that are left to be gone over, in order. Contracts see the list of them.
 #[derive(Drop)]
 pub struct Leaves<'a, T, L> {
-    // The branches that they are in, the first of them last.
-    ahead: Vec<&'a Node<T, L>>,
+    // What they are in, the first of it last.
+    ahead: Vec<Ahead<'a, T, L>>,
+}
+
+// What leaves are in: a branch, or what is left of a run.
+#[derive(Drop)]
+pub(crate) enum Ahead<'a, T, L> {
+    Branch(&'a Node<T, L>),
+    Run(&'a [T]),
 }
 
 impl<'a, T, L> Model for Leaves<'a, T, L> {
@@ -38,7 +45,7 @@ impl<'a, T, L> Leaves<'a, T, L> {
         ensures { IfOk result (λ walk. walk ≡ spec.leaves node.now) }
     {
         let mut ahead = Vec::new(alloc);
-        ahead.push(node)?;
+        ahead.push(Ahead::Branch(node))?;
         Ok(Leaves { ahead })
     }
 
@@ -50,20 +57,26 @@ impl<'a, T, L> Leaves<'a, T, L> {
     }
 }
 
-// The first leaf of these branches, the first of them last.
+// The first leaf of these, the first of them last.
 #[tactic(auto, using(crate::proofs::Moving::reverse_more))]
-fn next_leaf<'a, T, L>(ahead: &mut Vec<&'a Node<T, L>>) -> Result<Option<&'a T>, AllocError>
+fn next_leaf<'a, T, L>(ahead: &mut Vec<Ahead<'a, T, L>>) -> Result<Option<&'a T>, AllocError>
     ensures { IfOk result (λ found. spec.IsNextLeaf (reverse ahead.old.items) (reverse ahead.new.items) found) }
 {
-    'down: while let Some(node) = ahead.pop() {
-        match node {
-            Node::Empty => {}
-            Node::Leaf(value) => return Ok(Some(value)),
-            Node::Both(first, second) => {
-                ahead.push(second.as_ref())?;
-                ahead.push(first.as_ref())?;
+    'down: while let Some(next) = ahead.pop() {
+        match next {
+            Ahead::Branch(Node::Empty) => {}
+            Ahead::Branch(Node::Run(values)) => ahead.push(Ahead::Run(values.as_slice()))?,
+            Ahead::Branch(Node::Both(first, second)) => {
+                ahead.push(Ahead::Branch(second.as_ref()))?;
+                ahead.push(Ahead::Branch(first.as_ref()))?;
             }
-            Node::Group(tree, _) => ahead.push(tree.as_ref())?,
+            Ahead::Branch(Node::Group(tree, _)) => ahead.push(Ahead::Branch(tree.as_ref()))?,
+            Ahead::Run(values) => {
+                if let Some((value, rest)) = values.split_first() {
+                    ahead.push(Ahead::Run(rest))?;
+                    return Ok(Some(value));
+                }
+            }
         }
     }
     Ok(None)
@@ -133,7 +146,7 @@ impl<'a, T, L> Groups<'a, T, L> {
 }
 
 // The first group of these steps, the first of them last, behind so many leaves.
-#[tactic(auto, using(crate::proofs::Moving::reverse_more))]
+#[tactic(auto, using(crate::proofs::Moving::reverse_more, crate::proofs::Moving::both_apart))]
 fn next_group<'a, T, L>(
     ahead: &mut Vec<Step<'a, T, L>>,
     passed: &mut usize,
@@ -143,7 +156,7 @@ fn next_group<'a, T, L>(
     'down: while let Some(step) = ahead.pop() {
         match step {
             Step::Branch(Node::Empty) => {}
-            Step::Branch(Node::Leaf(_)) => *passed = one_more(*passed)?,
+            Step::Branch(Node::Run(values)) => *passed = counted(*passed, values.len())?,
             Step::Branch(Node::Both(first, second)) => {
                 ahead.push(Step::Branch(second.as_ref()))?;
                 ahead.push(Step::Branch(first.as_ref()))?;
@@ -165,11 +178,11 @@ fn next_group<'a, T, L>(
 }
 
 // Leaves are counted as far as memory goes.
-fn one_more(count: usize) -> Result<usize, AllocError>
-    ensures { IfOk result (λ more. more ≡ count + 1) }
+fn counted(passed: usize, more: usize) -> Result<usize, AllocError>
+    ensures { IfOk result (λ count. count ≡ passed + more) }
 {
-    match count.checked_add(1) {
-        Some(more) => Ok(more),
+    match passed.checked_add(more) {
+        Some(count) => Ok(count),
         None => Err(AllocError),
     }
 }
