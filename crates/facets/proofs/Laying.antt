@@ -6,7 +6,7 @@ use Rattle.facet_checks.specs.declared.list.FacetList.{FacetList}
 use Rattle.facets.specs.declared.members.Gate.{Gate}
 use Rattle.facets.specs.declared.members.Member.{Member}
 use Rattle.facets.specs.UnionMembers.{Members, gate_of, members_of}
-use Rattle.facets.specs.Members.{moved_on as gates_on}
+use Rattle.facets.specs.Members.{moved_gate, moved_on as gates_on}
 use Rattle.facets.specs.Making.{gate, with_union}
 
 pub gates_stay : (gates : List Gate) → gates_on 0 gates ≡ gates
@@ -39,7 +39,7 @@ module _ (all : Grouped Member FacetList) where
     own =
         gates_move (length all.leaves) (others.groups ++ last ∷ [])
         ∙ ap (gates_on (length all.leaves)) (map-append gate_of others.groups (last ∷ []))
-        ∙ map-append _ (map gate_of others.groups) (gate_of last ∷ [])
+        ∙ map-append (moved_gate (length all.leaves)) (map gate_of others.groups) (gate_of last ∷ [])
         ∙ ap (λ end. gates_on (length all.leaves) (map gate_of others.groups) ++ end ∷ []) ends
 
     gates_with : map gate_of (joined all (grouped others list)).groups ≡ (with_union (members_of all) (members_of others) list).gates

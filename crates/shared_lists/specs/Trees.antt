@@ -1,6 +1,5 @@
 -- Trees of leaves, some of whose branches are groups that have a label.
 use Rattle.std.specs.Prelude.{ℕ, ◌+◌, List, [], ◌∷◌, ◌++◌, length, map, Option, None, Some}
-use Rattle.std.specs.Borrow.{Bor}
 use Rattle.shared_lists.specs.declared.trees.Node.{Node}
 use Rattle.shared_lists.specs.declared.trees.Node.TheVariants.{Empty, Run, Both', Group'}
 

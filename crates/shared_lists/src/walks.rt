@@ -21,7 +21,7 @@ pub(crate) enum Ahead<'a, T, L> {
 }
 
 impl<'a, T, L> Model for Leaves<'a, T, L> {
-    ghost use Rattle.std.specs.Prelude.{List, map, reverse};
+    ghost use Rattle.std.specs.Prelude.{List, reverse};
     ghost use Rattle.std.specs.Coded.{coded_list};
     ghost use Rattle.shared_lists.specs.Walks.{leaves_of};
 
