@@ -89,6 +89,7 @@ pub struct Group<'a, L> {
     pub from: usize,
     /// That of the leaf behind its last.
     pub to: usize,
+    /// What was given to it.
     pub label: &'a L,
 }
 
