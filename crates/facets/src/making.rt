@@ -1,7 +1,7 @@
 //! Lists of a type, and unions of types.
 ghost use Rattle.std.specs.Prelude.{◌≡◌, [], IfOk};
 ghost use Rattle.facets.specs.Making as spec;
-ghost use Rattle.facets.specs.declared.members.Source.TheVariants.{Literals};
+ghost use Rattle.facets.specs.declared.members.Source.TheVariants as sources;
 
 use crate::Facets;
 use crate::members::{
@@ -55,7 +55,7 @@ fn with_one(
     literals: &Literals,
     list: &FacetList,
 ) -> Result<Members, AllocError>
-    ensures { IfOk result (λ made. made ≡ spec.with_source all (Literals literals.now) list.now) }
+    ensures { IfOk result (λ made. made ≡ spec.with_source all (sources.Literals literals.now) list.now) }
 {
     let Members { front, mut run } = all;
     run.push(Member {
