@@ -33,7 +33,7 @@ no_blocks trees base whole block e n f m = record {
   back = [];
   are = refl;
   whole_is = empty_sequence base whole e n;
-  block_is = empty_sequence (base + size (sequence_of [])) block f m;
+  block_is = empty_sequence (base + size {S = ℕ} (sequence_of [])) block f m;
 }
 
 module _ (trees : List Tree) (base i : ℕ) (whole block : Part) (are : AreBlocks trees base i whole block) (words : IsTrue (has_word (sequence_of trees))) where

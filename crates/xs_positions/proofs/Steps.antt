@@ -165,6 +165,10 @@ pub if_ok : {T E : Type 0} (P Q : T → Type 0) (r : Result T E) → ((x : T) �
 if_ok P Q (Ok x) f h = f x h
 if_ok P Q (Err e) f h = h
 
+pub if_both : {T E : Type 0} (P Q R : T → Type 0) (r : Result T E) → ((x : T) → P x → Q x → R x) → IfOk r P → IfOk r Q → IfOk r R
+if_both P Q R (Ok x) f g h = f x g h
+if_both P Q R (Err e) f g h = g
+
 -- ---- positions that no word goes through
 pub unused_sets : (t : Tree) (base : ℕ) (m : Measure) (part : Part) → m ≡ measure_of t → size t < 2 ^ 32 → ((p : ℕ) → Passes (IsWord t base) p → ⊥) →
     sets_of part ≡ unused m.size → Describes (IsWord t base) base (size t) (sets_of part)
