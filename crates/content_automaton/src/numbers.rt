@@ -1,6 +1,6 @@
 //! States by their sets of positions.
 
-ghost use Rattle.std.specs.Prelude.{◌≡◌, ℕ, ◌<◌, ◌≤◌, [], map, length, IfOk, IfErr, IfSome};
+ghost use Rattle.std.specs.Prelude.{◌≡◌, ◌≢◌, ◌<◌, ◌≤◌, [], ◌∷◌, map, length, IsTrue, IfOk, IfErr, IfSome};
 ghost use Rattle.content_automaton.specs.Built.{set_of, IsNew, IsNumbered};
 ghost use Rattle.content_automaton.specs.Outcome.{WhereTooMany};
 
@@ -42,10 +42,10 @@ impl States {
         ensures too_many { IfErr result (λ stop. WhereTooMany stop (IsNew (map (λ state. state.items) self.old.sets.keys) set.now.items)) }
         ensures full { IfErr result (λ stop. WhereTooMany stop (length self.old.sets.keys ≡ 2048)) }
     {
-        let Some(first) = set.first() else {
+        if set.is_empty() {
             return Ok(DEAD);
-        };
-        let place = *first as usize;
+        }
+        let place = set[0] as usize;
         if let Some(number) = self.latest_with(place, set) {
             return Ok(number);
         }
@@ -61,12 +61,21 @@ impl States {
         ensures { IfSome result (λ number. (number < length self.now.sets.keys) × (set_of (map (λ state. state.items) self.now.sets.keys) number ≡ set.now)) }
     {
         let number = *self.latest.get(place)?;
-        let state = self.sets.get_index(number as usize)?;
-        if state.as_slice() == set {
+        if is_at(self.sets.as_slice(), number, set) {
             Some(number)
         } else {
             None
         }
+    }
+}
+
+/// Whether the state of this number has the set.
+fn is_at(states: &[Vec<u32>], number: u16, set: &[u32]) -> bool
+    ensures { IsTrue result → (number < length states.now) × (set_of (map (λ state. state.items) states.now) number ≡ set.now) }
+{
+    match states.get(number as usize) {
+        Some(state) => state.as_slice() == set,
+        None => false,
     }
 }
 

@@ -24,21 +24,17 @@ pub(crate) fn coming(
     let mut flags = vec![in alloc; false; form.count() as usize]?;
     let mut next = Vec::new(alloc);
     if starts {
-        put_new(&mut flags, &mut next, form.first())?;
+        put_all(&mut flags, &mut next, form.first())?;
     }
     for p in set {
-        put_new(&mut flags, &mut next, form.follow(*p))?;
+        put_all(&mut flags, &mut next, form.follow(*p))?;
     }
     sort_unique(&mut next);
     Ok(next)
 }
 
-/// Puts those of the numbers into the list that have no flag, and sets their flags.
-fn put_new(
-    flags: &mut Vec<bool>,
-    list: &mut Vec<u32>,
-    more: &[u32],
-) -> Result<(), AllocError>
+/// Puts those of the numbers into the list that are not there. A flag says of each number whether it is.
+fn put_all(flags: &mut Vec<bool>, list: &mut Vec<u32>, more: &[u32]) -> Result<(), AllocError>
     requires fits { All (λ p. p < length flags.old.items) more.now }
     requires listed { AreListed flags.old.items list.old.items }
     ensures members { OnOk result ((p : ℕ) → Contains list.new.items p ↔ (Contains list.old.items p ⊎ Contains more.now p)) }
@@ -46,12 +42,24 @@ fn put_new(
     ensures count { OnOk result (length flags.new.items ≡ length flags.old.items) }
 {
     for p in more {
-        let place = *p as usize;
-        if !flags[place] {
-            flags[place] = true;
-            list.push(*p)?;
-        }
+        put_one(flags, list, *p)?;
     }
+    Ok(())
+}
+
+/// Puts the number into the list, if it is not there.
+fn put_one(flags: &mut Vec<bool>, list: &mut Vec<u32>, number: u32) -> Result<(), AllocError>
+    requires fits { number < length flags.old.items }
+    requires listed { AreListed flags.old.items list.old.items }
+    ensures members { OnOk result ((p : ℕ) → Contains list.new.items p ↔ (Contains list.old.items p ⊎ (p ≡ number))) }
+    ensures listed { OnOk result (AreListed flags.new.items list.new.items) }
+    ensures count { OnOk result (length flags.new.items ≡ length flags.old.items) }
+{
+    if flags[number as usize] {
+        return Ok(());
+    }
+    flags[number as usize] = true;
+    list.push(number)?;
     Ok(())
 }
 
