@@ -103,8 +103,11 @@ come_more table starts set i Old New follow l e before h q = (
   ]),
 )
 
+abbrev no_numbers : List ℕ
+no_numbers = []
+
 -- those that come first, at the start
-pub come_first : (table : Table) (set : List ℕ) (New : ℕ → Type 0) (first : List ℕ) → first ≡ table.first → ((q : ℕ) → New q ↔ (Contains {ℕ} [] q ⊎ Contains first q)) →
+pub come_first : (table : Table) (set : List ℕ) (New : ℕ → Type 0) (first : List ℕ) → first ≡ table.first → ((q : ℕ) → New q ↔ (Contains no_numbers q ⊎ Contains first q)) →
     (q : ℕ) → New q ↔ Comes table true (take 0 set) q
 come_first table set New first e h q = (
   (λ x. elim ((h q).0 x) [
@@ -117,7 +120,7 @@ come_first table set New first e h q = (
   ]),
 )
 
-pub come_none : (table : Table) (set : List ℕ) (q : ℕ) → Contains {ℕ} [] q ↔ Comes table false (take 0 set) q
+pub come_none : (table : Table) (set : List ℕ) (q : ℕ) → Contains no_numbers q ↔ Comes table false (take 0 set) q
 come_none table set q = (
   (λ c. absurd (none_contained q c)),
   (λ x. elim x [

@@ -13,9 +13,9 @@ put_all-requires-in-loop-p-clause-fits c =
 pub loop-p-preserved : goal.loop-p-preserved
 loop-p-preserved c = record {
   members = come_more c.args.form.now.table c.args.starts c.args.set.now c.loop-p.p-index (Contains c.loop-p.next.items) (Contains c.put_all-in-loop-p.new.list.items) c.follow.result.now
-      c.loop-p-test.true c.follow.ensures c.loop-p.invariant.members c.in_ok-put_all-in-loop-p.ensures.members;
-  listed = c.in_ok-put_all-in-loop-p.ensures.listed;
-  count = c.in_ok-put_all-in-loop-p.ensures.count ∙ c.loop-p.invariant.count;
+      c.loop-p-test.true c.follow.ensures c.loop-p.invariant.members c.in_ok-put_all-2.ensures.members;
+  listed = c.in_ok-put_all-2.ensures.listed;
+  count = c.in_ok-put_all-2.ensures.count ∙ c.loop-p.invariant.count;
 }
 
 pub returns-clause-members : goal.returns-clause-members
