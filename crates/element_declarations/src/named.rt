@@ -71,8 +71,6 @@ struct NearestRule<'a> {
 }
 
 impl Rule<Option<ElementId>> for NearestRule<'_> {
-    ghost use Rattle.std.specs.Prelude.{◌×◌};
-
     ghost is_valid = { λ r. IsRanked r.parts.now × AreMarked r.parts.now r.marks.now };
 
     ghost count = { λ r. length r.parts.now.elements.parts };
