@@ -4,8 +4,8 @@ use Rattle.std.specs.Cmp.Lexicographic.{pointwise}
 use Rattle.std.specs.List.{AllZip, list_any}
 use Rattle.std.proofs.lemmas.Slice.Zip.{AllZip-map}
 use Rattle.content_automaton.specs.Built.{IsNumbered}
-use Rattle.content_automaton.proofs.Numbering.{numbered_dead, not_empty_set, place_found, none_found, placed_new}
-use Rattle.content_automaton.proofs.numbers.number_in.Goals as goal
+use Rattle.content_automaton.proofs.Numbering.{place_found, none_found, placed_new}
+use Rattle.content_automaton.proofs.numbers.look_up.Goals as goal
 
 same_items : (xs ys : List ℕ) → AllZip (λ x y. y ≡ x) xs ys → ys ≡ xs
 same_items xs ys h = AllZip-map (λ x. x) xs ys h ∙ as_they_are xs
@@ -21,19 +21,15 @@ placed_copy : {X : Type 0} (f : X → List ℕ) (xs : List X) (set : List ℕ) (
 placed_copy f xs set b x xs' e n keys same =
     placed_new f xs set b x xs' e n (subst (λ (s : List ℕ). xs' ≡ (if list_any (λ y. pointwise (λ a b. a == b) s (f y)) xs then xs else xs ++ x ∷ [])) same keys) same
 
-pub returns-then-is_empty-clause-ok : goal.returns-then-is_empty-clause-ok
-returns-then-is_empty-clause-ok c =
-    numbered_dead _ c.args.states.now.keys c.args.set.now.items c.args.set.now.len c.is_empty.result c.requires.few c.is_empty.ensures c.if-is_empty.true c.args.set.now.ok.0
-
 pub returns-in-Some-clause-ok : goal.returns-in-Some-clause-ok
 returns-in-Some-clause-ok c =
     place_found (λ state. state.items) c.args.states.now.keys c.args.set.now.items c.in-Some.number c.args.set.now c.in-Some.ensures.index c.requires.few c.requires.start
-    (not_empty_set c.args.set.now.items c.args.set.now.len c.is_empty.result c.is_empty.ensures c.if-is_empty.false c.args.set.now.ok.0)
+    c.requires.filled
 
 pub returns-then-number-eq-MOST_STATES-clause-too_many : goal.returns-then-number-eq-MOST_STATES-clause-too_many
 returns-then-number-eq-MOST_STATES-clause-too_many c =
     none_found (λ state. state.items) c.args.states.now.keys c.args.set.now.items false c.in_default.ensures.found refl
-    (not_empty_set c.args.set.now.items c.args.set.now.len c.is_empty.result c.is_empty.ensures c.if-is_empty.false c.args.set.now.ok.0)
+    c.requires.filled
 
 pub returns-clause-ok : goal.returns-clause-ok
 returns-clause-ok c =
@@ -43,4 +39,4 @@ returns-clause-ok c =
     let same : c.in_ok-clone.field-0.items ≡ c.args.set.now.items = same_items c.args.set.now.items c.in_ok-clone.field-0.items c.in_ok-clone.ensures.cases.0 in
     rw n (placed_copy (λ state. state.items) c.args.states.now.keys c.args.set.now.items false c.in_ok-clone.field-0 c.insert.new.self.keys c.in_default.ensures.found refl
     c.in_ok-insert.ensures.keys same
-    (not_empty_set c.args.set.now.items c.args.set.now.len c.is_empty.result c.is_empty.ensures c.if-is_empty.false c.args.set.now.ok.0) c.requires.some (omega arith))
+    c.requires.filled c.requires.some (omega arith))
