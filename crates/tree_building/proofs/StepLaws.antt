@@ -2,19 +2,15 @@
 use Rattle.std.proofs.Common.{◌≡◌, ℕ, List, Result, Ok, Err, Option, Some, None, refl, sym, ap, ◌∙◌, subst}
 use Rattle.std.specs.Result.{IsErrAnd}
 use Rattle.tag_names.specs.declared.fault.NameReason.{NameReason}
-use Rattle.tag_names.specs.Resolving.{judged}
 use Rattle.tag_names.specs.declared.lines.Tag.{Tag}
-use Rattle.tag_names.specs.declared.resolve.JudgedTag.{JudgedTag}
-use Rattle.tree_rows.specs.declared.row.Binding.{Binding}
 use Rattle.tree_building.specs.Building.{fault_of, tag_by, tag_closed_by, tag_closed}
 use Rattle.tree_building.specs.Nest.{scope_in}
-use Rattle.tree_building.specs.Steps.{JudgedStop, Steps, Stops, reason_by}
+use Rattle.tree_building.specs.Steps.{JudgedStop, Steps, Stops}
 use Rattle.tree_building.specs.declared.building.Building.{Building}
 use Rattle.tree_building.specs.declared.fault.Stop.{Stop}
 use Rattle.tree_building.specs.declared.fault.Stop.TheVariants.{Memory, Refused}
 use Rattle.tree_building.specs.declared.fault.TreeFault.{TreeFault}
 use Rattle.tree_building.specs.declared.pending.Pending.TheVariants as pending
-use Rattle.tree_building.specs.declared.rules.Rules.{Rules}
 
 judged_fault : (b : Building) (tag : Tag) (item : ℕ) (fault : TreeFault) (found : Option NameReason) → JudgedStop item (Refused fault) found → tag_by b tag item found ≡ Err fault
 judged_fault b tag item fault None j = absurd j
@@ -31,8 +27,3 @@ pub tag_stops : {X : Type 0} (r : Result X Stop) (x : Stop) (b new : Building) (
 tag_stops (Ok y) x b new tag item same e q j = absurd q
 tag_stops (Err y) x b new tag item same e q j =
     subst (λ n. Stops b n y (tag_closed b)) (sym same) (subst (λ z. Stops b b z (tag_closed b)) (sym q) (stop_steps x b tag item e j))
-
--- the reason against a tag that was judged in its scope
-pub judged_stop : (item : ℕ) (x : Stop) (rules : Rules) (scope : List Binding) (tag : Tag) (says : JudgedTag) → says ≡ judged scope tag
-    → JudgedStop item x (reason_by rules says.faults) → JudgedStop item x (fault_of rules scope tag)
-judged_stop item x rules scope tag says is j = subst (λ s. JudgedStop item x (reason_by rules s.faults)) is j
