@@ -44,26 +44,30 @@ faults-start keys none scope lines = after-behind (map name_of keys) (names_from
 
 -- no line is left
 pub faults-end : (seen : SeenLines) (scope : List Binding) → seen.faults ≡ faults_with scope seen []
-faults-end seen scope = sym (same_faults _ _ _ _ _ _ (or-false seen.faults.bad) (or-false seen.faults.unbound) (or-false seen.faults.double))
+faults-end seen scope =
+    sym (same_faults (seen.faults.bad || false) seen.faults.bad (seen.faults.unbound || false) seen.faults.unbound (seen.faults.double || false) seen.faults.double
+    (or-false seen.faults.bad) (or-false seen.faults.unbound) (or-false seen.faults.double))
 
-module _ (scope : List Binding) (old new : SeenLines) (name : List ℕ) (bad : new.faults.bad ≡ (old.faults.bad || is_no_qname name)) (value : List ℕ) (more : List AttributeLine) where
-  abbrev line : AttributeLine
-  line = record { name = name; value = value }
-
+module _ (scope : List Binding) (old new : SeenLines) (line : AttributeLine) (bad : new.faults.bad ≡ (old.faults.bad || is_no_qname line.name)) (more : List AttributeLine) where
   is_worse : new.faults.bad || list_any is_bad more ≡ old.faults.bad || list_any is_bad (line ∷ more)
-  is_worse = ap (λ b. b || list_any is_bad more) bad ∙ or-assoc old.faults.bad (is_no_qname name) (list_any is_bad more)
+  is_worse = ap (λ b. b || list_any is_bad more) bad ∙ or-assoc old.faults.bad (is_no_qname line.name) (list_any is_bad more)
 
   -- a binding more
   pub faults-bound : is_binding line ≡ true → new.faults.unbound ≡ old.faults.unbound → new.faults.double ≡ old.faults.double → map name_of new.names.keys ≡ map name_of old.names.keys
       → faults_with scope new more ≡ faults_with scope old (line ∷ more)
   faults-bound binds unbound double names =
-      same_faults _ _ _ _ _ _ is_worse (rw (binds, unbound) refl) (rw (binds, double, names) refl)
+      let prefix : new.faults.unbound || list_any (line_is_unbound scope) more ≡ old.faults.unbound || list_any (line_is_unbound scope) (line ∷ more) =
+      ap (λ u. u || list_any (line_is_unbound scope) more) unbound ∙ (rw binds refl) in
+      let twice : new.faults.double || repeats_after (map name_of new.names.keys) (names_from scope more) ≡ old.faults.double || repeats_after (map name_of old.names.keys) (names_from scope (line ∷ more)) =
+      ap (λ d. d || repeats_after (map name_of new.names.keys) (names_from scope more)) double
+      ∙ ap (λ keys. old.faults.double || repeats_after keys (names_from scope more)) names ∙ (rw binds refl) in
+      same_faults _ _ _ _ _ _ is_worse prefix twice
 
   -- an attribute more
-  pub faults-named : is_binding line ≡ false → new.faults.unbound ≡ (old.faults.unbound || is_unbound scope (prefix_of name))
-      → (new.faults.double || repeats_after (map name_of new.names.keys) (names_from scope more)) ≡ (old.faults.double || repeats_after (map name_of old.names.keys) (attribute_name scope name ∷ names_from scope more))
+  pub faults-named : is_binding line ≡ false → new.faults.unbound ≡ (old.faults.unbound || is_unbound scope (prefix_of line.name))
+      → (new.faults.double || repeats_after (map name_of new.names.keys) (names_from scope more)) ≡ (old.faults.double || repeats_after (map name_of old.names.keys) (attribute_name scope line.name ∷ names_from scope more))
       → faults_with scope new more ≡ faults_with scope old (line ∷ more)
   faults-named binds unbound double =
       let prefix : new.faults.unbound || list_any (line_is_unbound scope) more ≡ old.faults.unbound || list_any (line_is_unbound scope) (line ∷ more) =
-      ap (λ u. u || list_any (line_is_unbound scope) more) unbound ∙ or-assoc old.faults.unbound (is_unbound scope (prefix_of name)) (list_any (line_is_unbound scope) more) ∙ (rw binds refl) in
+      ap (λ u. u || list_any (line_is_unbound scope) more) unbound ∙ or-assoc old.faults.unbound (is_unbound scope (prefix_of line.name)) (list_any (line_is_unbound scope) more) ∙ (rw binds refl) in
       same_faults _ _ _ _ _ _ is_worse prefix (double ∙ (rw binds refl))

@@ -77,7 +77,8 @@ fn put_bound(
     ensures { OnOk result ((more : List Line) → bindings.new ++ tags.bindings_in more ≡ bindings.old ++ tags.bindings_in (line_at text.now spot.now ∷ more)) }
 {
     let line = copy_line(alloc, text, spot)?;
-    put_binding(pool, bindings, &line)
+    put_binding(pool, bindings, &line)?;
+    Ok(())
 }
 
 /// The bindings among the lines at spots, in order.
@@ -109,7 +110,8 @@ fn take_at(
     ensures { OnOk result ((more : List Line) → faults_with (scopes.own_of (option_copied own.entry) ++ scope.now) seen.new more
         ≡ faults_with (scopes.own_of (option_copied own.entry) ++ scope.now) seen.old (line_at text.now spot.now ∷ more)) }
 {
-    seen.take(own, scope, name_at(text, spot))
+    seen.take(own, scope, name_at(text, spot))?;
+    Ok(())
 }
 
 /// What stands against the lines at spots, where these bindings come before a scope.

@@ -128,6 +128,7 @@ impl SeenLines {
         }
         let unbound = is_unbound(own, scope, parts_of(name).prefix);
         self.faults.unbound = self.faults.unbound || unbound;
-        self.take_attribute(own, scope, name)
+        self.take_attribute(own, scope, name)?;
+        Ok(())
     }
 }
