@@ -84,8 +84,8 @@ module _ (t : Tables) (ranked : IsRanked t) where
   nearest-remains e h (Some x) is (inr has) = has-above t e x h (nearest-has e x is).0 has
 
   at-head : (b : Bool) (h : ℕ) → b ≡ true → Remains t (if b then Some h else nearest_of t h) h
-  at-head true h yes = inl refl
-  at-head false h yes = absurd (false≢true yes)
+  at-head true h told = inl refl
+  at-head false h told = absurd (false≢true told)
 
   past-head : (b : Bool) (up h : ℕ) → HasHead t up h → Remains t (nearest_of t up) h → Remains t (if b then Some up else nearest_of t up) h
   past-head true up h has r = inr has
@@ -93,8 +93,8 @@ module _ (t : Tables) (ranked : IsRanked t) where
 
   -- a head that content models name is the nearest one, or above it
   pub has-nearest : (e h : ℕ) → HasHead t e h → is_named t h ≡ true → Remains t (nearest_of t e) h
-  has-nearest _ _ (named e h is) yes = subst (λ o. Remains t o h) (sym (nearest-with e (Some h) is)) (at-head (is_named t h) h yes)
-  has-nearest _ _ (through e up h is has) yes = subst (λ o. Remains t o h) (sym (nearest-with e (Some up) is)) (past-head (is_named t up) up h has (has-nearest up h has yes))
+  has-nearest _ _ (named e h is) told = subst (λ o. Remains t o h) (sym (nearest-with e (Some h) is)) (at-head (is_named t h) h told)
+  has-nearest _ _ (through e up h is has) told = subst (λ o. Remains t o h) (sym (nearest-with e (Some up) is)) (past-head (is_named t up) up h has (has-nearest up h has told))
 
 -- the table was filled
 pub are-nearest : (t : Tables) (first table : List (Option ℕ)) → length first ≡ length t.elements.parts → length table ≡ length first → ((n : ℕ) → n < length t.elements.parts → slice_get table n ≡ Some (nearest_of t n)) →

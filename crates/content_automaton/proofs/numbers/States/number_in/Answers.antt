@@ -1,3 +1,4 @@
+use Rattle.std.proofs.Common.{◌∙◌}
 use Rattle.content_automaton.proofs.Numbering.{numbered_dead, numbered_same, not_empty_set}
 use Rattle.content_automaton.proofs.numbers.States.number_in.Goals as goal
 
@@ -11,5 +12,5 @@ look_up-requires-clause-filled c =
 
 pub returns-in-Some-clause-ok : goal.returns-in-Some-clause-ok
 returns-in-Some-clause-ok c =
-    numbered_same (λ state. state.items) c.args.self.now.sets.keys c.args.set.now.items c.in-Some.number c.requires.few c.in-Some.ensures.0 (c.in-Some.ensures.1) c.requires.start
+    numbered_same (λ state. state.items) c.args.self.now.sets.keys c.args.set.now.items c.in-Some.number c.requires.few c.in-Some.ensures.0 (c.in-Some.ensures.1 ∙ c.deref.ensures.value) c.requires.start
     (not_empty_set c.args.set.now.items c.args.set.now.len c.is_empty.result c.is_empty.ensures c.if-is_empty.false c.args.set.now.ok.0)
