@@ -289,7 +289,7 @@ def union_chain_restr(types):
     return schema(union('U0', 'xs:int xs:boolean'), each(types, two, 1))
 
 
-@hostile('check', levels=2000)
+@hostile('check', levels=19, other={'levels': 20}, kept='what is laid out doubles')
 def union_doubling(levels):
     """Unions each of which has the one before twice."""
     least = xs('simpleType', 'name U0', restriction('xs:int'))

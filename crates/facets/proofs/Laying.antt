@@ -23,16 +23,19 @@ gates_move by (one ∷ groups) = ap (λ more. gate_of (moved_group by one) ∷ m
 module _ (all : Grouped Member FacetList) where
   pub one_with : (before : List Member) (one : Member)
       → members_of (joined all (run (before ++ one ∷ []))) ≡ record (members_of (joined all (run before))) { members = (all.leaves ++ before) ++ one ∷ [] }
-  one_with before one = λ i. record { members = append_assoc all.leaves before (one ∷ []) (~ i); gates = map gate_of (all.groups ++ []) }
+  one_with before one =
+      let behind : all.leaves ++ (before ++ one ∷ []) ≡ (all.leaves ++ before) ++ one ∷ [] = sym (append_assoc all.leaves before (one ∷ [])) in
+      λ i. record { members = behind i; gates = map gate_of (all.groups ++ []) }
 
   module _ (others : Grouped Member FacetList) (list : FacetList) where
-    last : Group FacetList
+    abbrev last : Group FacetList
     last = group 0 (length others.leaves) list
 
     ends : gate (length all.leaves + 0) (length all.leaves + length others.leaves) list ≡ gate (length all.leaves) (length (all.leaves ++ others.leaves)) list
     ends =
         let start : length all.leaves + 0 ≡ length all.leaves = omega arith in
-        λ i. gate (start i) (length-append all.leaves others.leaves (~ i)) list
+        let stop : length all.leaves + length others.leaves ≡ length (all.leaves ++ others.leaves) = sym (length-append all.leaves others.leaves) in
+        λ i. gate (start i) (stop i) list
 
     own : map gate_of (moved_on (length all.leaves) (others.groups ++ last ∷ []))
         ≡ gates_on (length all.leaves) (map gate_of others.groups) ++ gate (length all.leaves) (length (all.leaves ++ others.leaves)) list ∷ []
