@@ -56,11 +56,7 @@ fn split_at_space(text: &str) -> (&str, &str)
 }
 
 #[tactic(auto, unfolding(crate::specs::Items::attribute))]
-fn read_attribute(
-    names: &mut RecentNames,
-    tag_open: bool,
-    rest: &str,
-) -> Result<Item, LineError>
+fn read_attribute(names: &mut RecentNames, tag_open: bool, rest: &str) -> Result<Item, LineError>
     ensures { Gives result (listed.attribute tag_open rest.now) }
 {
     let (name, value) = split_at_space(rest);
@@ -113,11 +109,7 @@ fn read_by_first(
     }
 }
 
-fn read_started(
-    names: &mut RecentNames,
-    tag_open: bool,
-    line: &str,
-) -> Result<Item, LineError>
+fn read_started(names: &mut RecentNames, tag_open: bool, line: &str) -> Result<Item, LineError>
     ensures { Gives result (listed.started tag_open line.now) }
 {
     match line.as_bytes().first() {
@@ -134,11 +126,7 @@ fn read_started(
 }
 
 /// What a line says, by its text.
-pub fn read_line(
-    names: &mut RecentNames,
-    tag_open: bool,
-    line: &[u8],
-) -> Result<Item, LineError>
+pub fn read_line(names: &mut RecentNames, tag_open: bool, line: &[u8]) -> Result<Item, LineError>
     ensures { Gives result (listed.item tag_open line.now) }
 {
     match str::from_utf8(line) {

@@ -1,5 +1,5 @@
 -- What stands against attribute lines, with one line more.
-use Rattle.std.proofs.Common.{◌≡◌, ℕ, List, [], ◌∷◌, ◌++◌, map, Bool, true, false, not, ◌||◌, ◌&&◌, refl, sym, ap, ◌∙◌}
+use Rattle.std.proofs.Common.{◌≡◌, List, [], ◌∷◌, ◌++◌, map, Bool, true, false, not, ◌||◌, ◌&&◌, refl, sym, ap, ◌∙◌}
 use Rattle.std.specs.List.{list_any}
 use Rattle.std.specs.Option.{option_eq}
 use Rattle.std.specs.String.{string_eq}
@@ -10,7 +10,7 @@ use Rattle.tree_rows.specs.declared.row.Binding.{Binding}
 use Rattle.tag_names.specs.Faults.{is_no_qname, is_unbound, line_is_unbound, repeats_name}
 use Rattle.tag_names.specs.Keys.{name_of}
 use Rattle.tag_names.specs.Resolving.{is_bad}
-use Rattle.tag_names.specs.Seen.{repeats_after, names_from, faults_with, line_faults}
+use Rattle.tag_names.specs.Seen.{repeats_after, names_from, faults_with}
 use Rattle.tag_names.specs.Tags.{is_binding, prefix_of, attribute_name, attributes_in}
 use Rattle.tag_names.specs.declared.doubles.NameKey.{NameKey}
 use Rattle.tag_names.specs.declared.lines.AttributeLine.{AttributeLine}

@@ -1,18 +1,14 @@
 -- The bindings and the attributes among the lines of a tag.
-use Rattle.std.proofs.Common.{◌≡◌, ℕ, ◌<◌, List, [], ◌∷◌, ◌++◌, drop, length, Bool, true, false, ◌||◌, Some, None, refl, ap, ◌∙◌, append_assoc, append-nil, arith, nat_lt}
-use Rattle.std.proofs.lemmas.Bool.Decides.{nat_tests}
+use Rattle.std.proofs.Common.{◌≡◌, ℕ, List, [], ◌∷◌, ◌++◌, drop, Bool, true, false, ◌||◌, Some, None, refl, ap, ◌∙◌, append_assoc, append-nil}
 use Rattle.std.specs.Prelude.{if◌then◌else◌}
 use Rattle.std.specs.List.{list_any}
 use Rattle.tree_rows.specs.declared.row.Attribute.{Attribute}
 use Rattle.tree_rows.specs.declared.row.Binding.{Binding}
 use Rattle.tag_names.specs.Tags.{is_binding, bound_prefix, attributes_in, attribute_name, prefix_of}
-use Rattle.tree_rows.specs.declared.limits.TheConstants.{MAX_ATTRIBUTES}
-use Rattle.tag_names.specs.Faults.{is_no_qname, is_unbound, line_is_unbound, has_bad_name, uses_reserved, has_unbound, has_double, has_too_many}
-use Rattle.tag_names.specs.Resolving.{is_bad, faults_of, first_reason, element_resolved, attribute_resolved, end_of, judged_element, judged_attribute, with_attribute, with_binding, lines_with}
-use Rattle.tag_names.specs.declared.fault.TagFaults.{TagFaults}
+use Rattle.tag_names.specs.Faults.{is_no_qname, is_unbound, line_is_unbound}
+use Rattle.tag_names.specs.Resolving.{is_bad, element_resolved, attribute_resolved, end_of, judged_element, judged_attribute, with_attribute, with_binding, lines_with}
 use Rattle.tag_names.specs.declared.judged.JudgedName.{JudgedName}
 use Rattle.tag_names.specs.declared.lines.AttributeLine.{AttributeLine}
-use Rattle.tag_names.specs.declared.lines.Tag.{Tag}
 use Rattle.tag_names.specs.declared.named.JudgedLines.{JudgedLines}
 
 none_false : (name : List ℕ) (b : Bool) → None ≡ (if b then Some (drop 6 name) else None) → b ≡ false
@@ -76,17 +72,3 @@ element-end own scope name judged none is = ap end_of is ∙ ap (λ o. end_of (j
 
 pub attribute-end : (own scope : List Binding) (name : List ℕ) (judged : JudgedName) → own ≡ [] → judged ≡ judged_attribute (own ++ scope) name → end_of judged ≡ attribute_resolved scope name
 attribute-end own scope name judged none is = ap end_of is ∙ ap (λ o. end_of (judged_attribute (o ++ scope) name)) none
-
-no_none : (a b c d e : Bool) → e ≡ true → None ≡ first_reason (record { bad = a; reserved = b; unbound = c; double = d; many = e }) → ⊥
-no_none true b c d e many none = cc none
-no_none false true c d e many none = cc none
-no_none false false true d e many none = cc none
-no_none false false false true e many none = cc none
-no_none false false false false true many none = cc none
-no_none false false false false false many none = cc many
-
--- a tag of too many lines is refused
-pub many-refused : (scope : List Binding) (tag : Tag) (faults : TagFaults) → faults ≡ faults_of scope tag → MAX_ATTRIBUTES < length tag.attributes → None ≡ first_reason faults → ⊥
-many-refused scope tag faults is most none =
-    let many : has_too_many tag ≡ true = grind (arith, nat_tests) in
-    no_none (has_bad_name tag) (uses_reserved tag) (has_unbound scope tag) (has_double scope tag) (has_too_many tag) many (none ∙ ap first_reason is)

@@ -15,6 +15,6 @@ mod seen;
 pub use fault::{NameReason, TagFaults};
 pub use lines::{AttributeLine, AttributeLines, Tag};
 pub use named::Named;
-pub use prefixes::Prefixes;
 pub(crate) use packed::PackedLines;
+pub use prefixes::Prefixes;
 pub use resolve::{JudgedTag, TestedTag};

@@ -236,6 +236,12 @@ impl PackedLines {
     ) -> Result<LineFaults, AllocError>
         ensures { IfOk result (λ found. found ≡ line_faults (scopes.own_of (option_copied own.entry) ++ scope.now) self.now) }
     {
-        faults_at(self.alloc, own, scope, self.text.as_str(), self.spots.as_slice())
+        faults_at(
+            self.alloc,
+            own,
+            scope,
+            self.text.as_str(),
+            self.spots.as_slice(),
+        )
     }
 }

@@ -206,8 +206,13 @@ impl Tag {
         let name = self.name.as_str();
         match self.attributes.kept() {
             KeptLines::Few(lines) => {
-                let JudgedTag { named, faults } =
-                    judged_with(alloc, scope, pool, name, lines.as_slice())?;
+                let JudgedTag { named, faults } = judged_with(
+                    alloc,
+                    scope,
+                    pool,
+                    name,
+                    lines.as_slice(),
+                )?;
                 Ok(TestedTag {
                     bindings: named.bindings,
                     faults,

@@ -62,16 +62,16 @@ fn named_by(
     ensures says { IfOk result (λ says. says ≡ named (scope_in nest.old) tag.now) }
     ensures same { nest.new ≡ nest.old }
 {
-    if !rules.names {
-        return Ok(nest.judge(alloc, tag)?.named);
+    if rules.names {
+        return match nest.resolve(alloc, tag)? {
+            Ok(named) => Ok(named),
+            Err(reason) => Err(Stop::Refused(TreeFault {
+                item,
+                reason: TreeReason::Name(reason),
+            })),
+        };
     }
-    match nest.resolve(alloc, tag)? {
-        Ok(named) => Ok(named),
-        Err(reason) => Err(Stop::Refused(TreeFault {
-            item,
-            reason: TreeReason::Name(reason),
-        })),
-    }
+    Ok(nest.judge(alloc, tag)?.named)
 }
 
 impl Building {
