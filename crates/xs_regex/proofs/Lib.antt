@@ -5,3 +5,4 @@ pub mod ProgramLaws
 pub mod Running
 pub mod Counting
 pub mod Meaning
+pub mod Answering

@@ -3,6 +3,7 @@ pub mod Listed
 pub mod Words
 pub mod Program
 pub mod Expression
+pub mod Asked
 pub mod Ready
 pub mod Outcome
 pub mod Meaning

@@ -9,6 +9,7 @@ ghost use Rattle.pattern_syntax.specs.Outcome.{regex_of};
 ghost use Rattle.pattern_syntax.specs.declared.fault.PatternFault.{PatternFault};
 ghost use Rattle.xs_regex.specs.Expression.{regex};
 
+use crate::asked::Asked;
 use crate::program::Program;
 use crate::set::PositionSet;
 use pattern_syntax::{PatternFault, Term, read_pattern};
@@ -24,6 +25,7 @@ pub struct Pattern {
     /// The positions that took the last character.
     live: PositionSet,
     next: PositionSet,
+    asked: Asked,
 }
 
 impl Model for Pattern {
@@ -79,10 +81,12 @@ impl Pattern {
             return Ok(Err(PatternFault::TooLarge));
         };
         let count = program.len();
+        let asked = program.ask(alloc)?;
         Ok(Ok(Pattern {
             program: Rc::new(alloc, program)?,
             live: PositionSet::new(alloc, count)?,
             next: PositionSet::new(alloc, count)?,
+            asked,
         }))
     }
 
@@ -98,6 +102,7 @@ impl Pattern {
             program: self.program.clone()?,
             live: PositionSet::new(alloc, count)?,
             next: PositionSet::new(alloc, count)?,
+            asked: self.program.ask(alloc)?,
         })
     }
 
@@ -106,6 +111,7 @@ impl Pattern {
         ensures answer { IsTrue result ↔ Matches (regex self.old) (chars text.now) }
         ensures same { self.new ≡ self.old }
     {
-        self.program.run(&mut self.live, &mut self.next, text)
+        self.program
+            .run(&mut self.live, &mut self.next, &mut self.asked, text)
     }
 }

@@ -9,10 +9,12 @@ ghost use Rattle.pattern_syntax.specs.Terms.{regexes_of, classes_of, trees_of};
 ghost use Rattle.xs_regex.specs.Sets.{Has};
 ghost use Rattle.xs_positions.specs.Expressions.{size};
 ghost use Rattle.xs_regex.specs.Expression.{regex};
+ghost use Rattle.xs_regex.specs.Asked.{AreAnswers};
 ghost use Rattle.xs_regex.specs.Program.{expression_of, takes, Waits, IsRead, ArePut, IsProgram};
 
+use crate::asked::Asked;
 use crate::set::PositionSet;
-use pattern_syntax::{CharClass, ClassItem, Terms};
+use pattern_syntax::Terms;
 use std::alloc::{AllocError, Global};
 use std::mem;
 use xs_positions::{ExprId, Positions, PositionsError, find_positions};
@@ -62,18 +64,34 @@ impl Program {
         self.positions.count()
     }
 
-    /// Whether the text is in the language of the term. The sets are for use meanwhile.
-    pub(crate) fn run(&self, live: &mut PositionSet, next: &mut PositionSet, text: &str) -> bool
+    /// What the classes are asked.
+    pub(crate) fn ask(&self, alloc: Global) -> Result<Asked, AllocError>
+        ensures { IfOk result (λ asked. AreAnswers (classes_of self.now.terms) asked.answers.items) }
+    {
+        Asked::new(alloc, self.terms.classes())
+    }
+
+    /// Whether the text is in the language of the term. The sets and the answers are for use meanwhile.
+    pub(crate) fn run(
+        &self,
+        live: &mut PositionSet,
+        next: &mut PositionSet,
+        asked: &mut Asked,
+        text: &str,
+    ) -> bool
         requires program { IsProgram self.now }
+        requires asked { AreAnswers (classes_of self.now.terms) asked.old.answers.items }
         requires live { length live.old ≡ length self.now.positions.symbols }
         requires next { length next.old ≡ length self.now.positions.symbols }
         ensures answer { IsTrue result ↔ Matches (regex (expression_of self.now)) (chars text.now) }
         ensures live_size { length live.new ≡ length live.old }
         ensures next_size { length next.new ≡ length next.old }
+        ensures asked { AreAnswers (classes_of self.now.terms) asked.new.answers.items }
     {
         let mut begun = false;
         for c in text.chars() {
-            self.advance(live, begun, c, next);
+            asked.c = c;
+            self.advance(live, begun, asked, next);
             begun = true;
             mem::swap(live, next);
         }
@@ -82,21 +100,23 @@ impl Program {
 
     /// The positions that take the character of those that wait for it: at the beginning those that begin a word, and
     /// then those that follow a live one.
-    fn advance(&self, live: &PositionSet, begun: bool, c: char, next: &mut PositionSet)
+    fn advance(&self, live: &PositionSet, begun: bool, asked: &mut Asked, next: &mut PositionSet)
         requires program { IsProgram self.now }
+        requires asked { AreAnswers (classes_of self.now.terms) asked.old.answers.items }
         requires live { length live.now ≡ length self.now.positions.symbols }
         requires next { length next.old ≡ length self.now.positions.symbols }
-        ensures next { (q : ℕ) → Has next.new q ↔ (Waits self.now.positions live.now begun q × IsTrue (takes self.now q c)) }
+        ensures next { (q : ℕ) → Has next.new q ↔ (Waits self.now.positions live.now begun q × IsTrue (takes self.now q asked.old.c)) }
         ensures size { length next.new ≡ length next.old }
+        ensures asked { AreAnswers (classes_of self.now.terms) asked.new.answers.items }
     {
         next.clear();
         if !begun {
-            self.put(self.positions.first(), c, next);
+            self.put(self.positions.first(), asked, next);
             return;
         }
         let mut done = None;
         for p in live.members() {
-            self.put_followers(*p, c, next, &mut done);
+            self.put_followers(*p, asked, next, &mut done);
         }
     }
 
@@ -119,31 +139,43 @@ impl Program {
 
     /// Puts those that follow the position and take the character into the set; where the same ones follow the position
     /// that is done, they are there already.
-    fn put_followers(&self, p: u32, c: char, next: &mut PositionSet, done: &mut Option<u32>)
+    fn put_followers(
+        &self,
+        p: u32,
+        asked: &mut Asked,
+        next: &mut PositionSet,
+        done: &mut Option<u32>,
+    )
         requires program { IsProgram self.now }
+        requires asked { AreAnswers (classes_of self.now.terms) asked.old.answers.items }
         requires within { p < length self.now.positions.symbols }
         requires next { length next.old ≡ length self.now.positions.symbols }
-        requires done { IfSome done.old (ArePut self.now next.old c) }
-        ensures done { IfSome done.new (ArePut self.now next.new c) }
-        ensures next { (q : ℕ) → Has next.new q ↔ (Has next.old q ⊎ (Contains (row self.now.positions.follow p) q × IsTrue (takes self.now q c))) }
+        requires done { IfSome done.old (ArePut self.now next.old asked.old.c) }
+        ensures done { IfSome done.new (ArePut self.now next.new asked.old.c) }
+        ensures next { (q : ℕ) → Has next.new q ↔ (Has next.old q ⊎ (Contains (row self.now.positions.follow p) q × IsTrue (takes self.now q asked.old.c))) }
         ensures size { length next.new ≡ length next.old }
+        ensures asked { AreAnswers (classes_of self.now.terms) asked.new.answers.items }
+        ensures c { asked.new.c ≡ asked.old.c }
     {
         if self.is_done(*done, p) {
             return;
         }
-        self.put(self.positions.follow(p), c, next);
+        self.put(self.positions.follow(p), asked, next);
         *done = Some(p);
     }
 
     /// Puts those of these positions that take the character into the set.
-    fn put(&self, positions: &[u32], c: char, set: &mut PositionSet)
+    fn put(&self, positions: &[u32], asked: &mut Asked, set: &mut PositionSet)
+        requires asked { AreAnswers (classes_of self.now.terms) asked.old.answers.items }
         requires positions { All (λ p. p < length self.now.positions.symbols) positions.now }
         requires set { length set.old ≡ length self.now.positions.symbols }
-        ensures set { (q : ℕ) → Has set.new q ↔ (Has set.old q ⊎ (Contains positions.now q × IsTrue (takes self.now q c))) }
+        ensures set { (q : ℕ) → Has set.new q ↔ (Has set.old q ⊎ (Contains positions.now q × IsTrue (takes self.now q asked.old.c))) }
         ensures size { length set.new ≡ length set.old }
+        ensures asked { AreAnswers (classes_of self.now.terms) asked.new.answers.items }
+        ensures c { asked.new.c ≡ asked.old.c }
     {
         for p in positions {
-            if self.takes(*p, c) {
+            if self.takes(*p, asked) {
                 set.insert(*p);
             }
         }
@@ -162,16 +194,15 @@ impl Program {
     }
 
     /// Whether the class of the position's symbol has the character.
-    fn takes(&self, p: u32, c: char) -> bool
-        requires { p < length self.now.positions.symbols }
-        ensures { result ≡ takes self.now p c }
+    fn takes(&self, p: u32, asked: &mut Asked) -> bool
+        requires within { p < length self.now.positions.symbols }
+        requires asked { AreAnswers (classes_of self.now.terms) asked.old.answers.items }
+        ensures told { result ≡ takes self.now p asked.old.c }
+        ensures asked { AreAnswers (classes_of self.now.terms) asked.new.answers.items }
+        ensures c { asked.new.c ≡ asked.old.c }
     {
         let number = self.positions.symbol_of(p) as usize;
-        match self.terms.classes().get(number) {
-            Some(CharClass::Item(ClassItem::One(other))) => c == *other,
-            Some(class) => class.contains(c),
-            None => false,
-        }
+        asked.is_in(self.terms.classes(), number)
     }
 }
 

@@ -21,6 +21,9 @@ put_followers-requires-clause-within c =
     let e = c.requires.live in
     omega (arith, l, e)
 
+pub put_followers-requires-clause-done : goal.put_followers-requires-clause-done
+put_followers-requires-clause-done c = rw c.loop-p.invariant.c c.loop-p.invariant.done
+
 pub loop-p-preserved : goal.loop-p-preserved
 loop-p-preserved c =
     let xs = c.members-p-items.result.now in
@@ -28,16 +31,18 @@ loop-p-preserved c =
     let x = get_or xs i 0 in
     let program = c.args.self.now in
     record {
-      next = λ q. turn (λ p. Contains (row program.positions.follow p) q) (λ p. IsTrue (takes program q c.args.c)) xs i x (Has c.loop-p.next q) (Has c.put_followers.new.next q)
-          c.loop-p-test.true (same_at xs i x 0 c.loop-p-test.true) (c.put_followers.ensures.next q) (c.loop-p.invariant.next q);
+      next = λ q. turn (λ p. Contains (row program.positions.follow p) q) (λ p. IsTrue (takes program q c.args.asked.now.c)) xs i x (Has c.loop-p.next q) (Has c.put_followers.new.next q)
+          c.loop-p-test.true (same_at xs i x 0 c.loop-p-test.true) (rw c.loop-p.invariant.c at (c.put_followers.ensures.next q)) (c.loop-p.invariant.next q);
       size = c.put_followers.ensures.size ∙ c.loop-p.invariant.size;
-      done = c.put_followers.ensures.done;
+      done = (rw c.loop-p.invariant.c at c.put_followers.ensures.done);
+      asked = c.put_followers.ensures.asked;
+      c = c.put_followers.ensures.c ∙ c.loop-p.invariant.c;
     }
 
 pub returns-clause-next : goal.returns-clause-next
 returns-clause-next c = λ q.
     let program = c.args.self.now in
-    let told = after_turns (λ p. Contains (row program.positions.follow p) q) (λ p. IsTrue (takes program q c.args.c)) c.members-p-items.result.now c.loop-p.p-index c.args.live.now (Has c.loop-p.next q)
+    let told = after_turns (λ p. Contains (row program.positions.follow p) q) (λ p. IsTrue (takes program q c.args.asked.now.c)) c.members-p-items.result.now c.loop-p.p-index c.args.live.now (Has c.loop-p.next q)
     c.loop-p-test.false c.members-p-items.ensures (c.loop-p.invariant.next q) in
     rw c.if-not-begun.false (
       (λ h. let k = told.0 h in ((k.0, k.1, k.2), k.3)),

@@ -15,11 +15,12 @@ loop-p-preserved c =
     let x = get_or xs i 0 in
     let flags = c.loop-p.set in
     let l = c.loop-p-test.true in
-    let T : ℕ → Type 0 = λ q. IsTrue (takes c.args.self.now q c.args.c) in
+    let T : ℕ → Type 0 = λ q. IsTrue (takes c.args.self.now q c.args.asked.now.c) in
+    let told : c.takes.result ≡ takes c.args.self.now x c.args.asked.now.c = (rw c.loop-p.invariant.c at c.takes.ensures.told) in
     let inside : x < length flags = (let a = c.requires.positions i 0 l in let b = c.loop-p.invariant.size in let s = c.requires.set in omega (arith, a, b, s)) in
     let one : (q : ℕ) → Has c.if-takes.set q ↔ (Has flags q ⊎ ((q ≡ x) × T q)) = elim c.if-takes.branch [
-      | then-takes w ↦ put_one T flags c.if-takes.set x inside (w.set-is ∙ w.insert.ensures) (sym c.takes.ensures ∙ w.if-takes.true)
-      | else-takes w ↦ put_none T flags c.if-takes.set x w.set-is (λ t. both_ways _ (sym c.takes.ensures ∙ w.if-takes.false) t)
+      | then-takes w ↦ put_one T flags c.if-takes.set x inside (w.set-is ∙ w.insert.ensures) (sym told ∙ w.if-takes.true)
+      | else-takes w ↦ put_none T flags c.if-takes.set x w.set-is (λ t. both_ways _ (sym told ∙ w.if-takes.false) t)
     ] in
     let size : length c.if-takes.set ≡ length flags = elim c.if-takes.branch [
       | then-takes w ↦ ap length (w.set-is ∙ w.insert.ensures) ∙ length-set flags x true
@@ -28,6 +29,8 @@ loop-p-preserved c =
     record {
       set = put_more T c.args.set.now flags c.if-takes.set xs i x l (same_at xs i x 0 l) one c.loop-p.invariant.set;
       size = size ∙ c.loop-p.invariant.size;
+      asked = c.takes.ensures.asked;
+      c = c.takes.ensures.c ∙ c.loop-p.invariant.c;
     }
 
 pub returns-clause-set : goal.returns-clause-set

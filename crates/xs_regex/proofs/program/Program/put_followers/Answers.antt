@@ -4,7 +4,7 @@ use Rattle.xs_regex.proofs.ProgramLaws.{follow_within, done_within, put_already}
 use Rattle.xs_regex.proofs.program.Program.put_followers.Goals as goal
 
 pub is_done-requires-clause-done : goal.is_done-requires-clause-done
-is_done-requires-clause-done c = done_within c.args.self.now c.args.next.now c.args.c c.args.done.now c.requires.done
+is_done-requires-clause-done c = done_within c.args.self.now c.args.next.now c.args.asked.now.c c.args.done.now c.requires.done
 
 pub put-requires-clause-positions : goal.put-requires-clause-positions
 put-requires-clause-positions c =
@@ -13,11 +13,13 @@ put-requires-clause-positions c =
 pub returns-then-is_done : goal.returns-then-is_done
 returns-then-is_done c =
     let same = c.is_done.ensures c.if-is_done.true in
-    let already = put_already c.args.self.now c.args.next.now c.args.c c.args.done.now c.args.p same.0 c.requires.done same.1 same.2 in
+    let already = put_already c.args.self.now c.args.next.now c.args.asked.now.c c.args.done.now c.args.p same.0 c.requires.done same.1 same.2 in
     record {
       done = c.requires.done;
       next = λ q. ((λ h. inl h), elim [ inl h ↦ h | inr h ↦ already q h.0 h.1 ]);
       size = refl;
+      asked = c.requires.asked;
+      c = refl;
     }
 
 pub returns : goal.returns
@@ -27,4 +29,6 @@ returns c =
       done = (c.requires.within, λ q h t. (more q).1 (inr (rw c.follow.ensures h, t)));
       next = λ q. rw c.follow.ensures at (more q);
       size = c.put.ensures.size;
+      asked = c.put.ensures.asked;
+      c = c.put.ensures.c;
     }

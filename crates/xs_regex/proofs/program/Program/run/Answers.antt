@@ -15,6 +15,7 @@ loop-c-init c =
       sound = run_sound term.classes term.tree table c.requires.program.positions c.args.live.now (chars c.args.text.now);
       complete = run_complete term.classes term.tree table c.requires.program.positions c.args.live.now (chars c.args.text.now);
       live = c.requires.live;
+      asked = c.requires.asked;
       next = c.requires.next;
     }
 
@@ -33,6 +34,7 @@ loop-c-preserved c =
       complete = turn_complete term.classes term.tree table c.requires.program.positions c.loop-c.live c.advance.new.next c.swap.new.x c.loop-c.begun
           text c.in-Some.c (length yielded) _ c.swap.ensures.x_after m t.0 t.1 size c.advance.ensures.next c.loop-c.invariant.complete;
       live = rw c.swap.ensures.x_after size;
+      asked = c.advance.ensures.asked;
       next = rw c.swap.ensures.y_after c.loop-c.invariant.live;
     }
 
