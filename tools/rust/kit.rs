@@ -156,6 +156,12 @@ pub mod indexmap {
         pub fn new(_: Global) -> Self {
             IndexSet(IndexMap::new(Global))
         }
+        pub fn with_capacity(_: Global, n: usize) -> Result<Self, AllocError> {
+            let mut set = IndexSet(IndexMap::new(Global));
+            set.0.entries.reserve_exact(n);
+            set.0.at.reserve(n);
+            Ok(set)
+        }
         pub fn allocator(&self) -> &Global {
             &Global
         }

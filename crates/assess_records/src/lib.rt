@@ -14,3 +14,4 @@ pub use instance_names::{
 pub use outcome::{Attempted, Validity, ValueSource};
 pub use record::{AttrRecord, AttrRecords, Codes, ElementRecord};
 pub use shape::{ElementShape, NamedText, NamedTextList};
+pub use shared_lists::Shared;

@@ -1,4 +1,5 @@
 use crate::{Attempted, Validity, ValueSource};
+use shared_lists::Shared;
 use xs_codes::Found;
 use xs_components::TypeId;
 use xs_lists::Listed;
@@ -32,4 +33,4 @@ pub struct AttrRecord {
 }
 
 /// The records of an element's attributes: the given ones in document order, then those that the schema adds.
-pub type AttrRecords = Listed<AttrRecord>;
+pub type AttrRecords = Listed<Shared<AttrRecord>>;

@@ -7,3 +7,4 @@ pub mod Notes
 pub mod Zips
 pub mod Held
 pub mod Whole
+pub mod KnownLaws

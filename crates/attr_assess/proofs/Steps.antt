@@ -1,5 +1,5 @@
 -- What an element lacks, name by name.
-use Rattle.std.proofs.Common.{◌≡◌, ℕ, ◌+◌, ◌^◌, ◌<◌, ◌≤◌, Bool, true, false, ◌&&◌, List, [], ◌∷◌, ◌++◌, Option, None, Some, map, refl, sym, ap, ◌∙◌, arith, subst, append-nil, true≢false}
+use Rattle.std.proofs.Common.{◌≡◌, ℕ, ◌+◌, ◌^◌, ◌<◌, ◌≤◌, Bool, true, false, List, [], ◌∷◌, ◌++◌, map, length, refl, sym, ap, ◌∙◌, arith, subst, append-nil, true≢false}
 use Rattle.std.specs.Prelude.{All}
 use Rattle.std.specs.List.{IsDistinct}
 use Rattle.std.specs.List.Sorted.{IsPermutation, IsSortedBy}
@@ -10,16 +10,16 @@ use Rattle.std.proofs.lemmas.List.Sorted.{All-permutation, IsPermutation-map}
 use Rattle.xs_names.specs.Names.{NameTable}
 use Rattle.xs_components.specs.Tables.{Tables}
 use Rattle.attr_uses.specs.declared.entry.UseAt.{UseAt}
-use Rattle.attr_uses.specs.Tables.{IsNext, IsNextNeeded, NoneNeeded}
+use Rattle.attr_uses.specs.declared.entry.NeededUse.{NeededUse}
+use Rattle.attr_uses.specs.Tables.{NoneNeeded}
 use Rattle.assess_records.specs.declared.shape.NamedText.{NamedText}
 use Rattle.attr_assess.specs.Lacking.{is_lacking, is_missing, is_added, AreThose}
-use Rattle.attr_assess.specs.Order.{is_before}
 use Rattle.attr_assess.specs.Added.{IsAddedUse, AreAddedNames, AreLacking}
-use Rattle.attr_assess.specs.inside.Uses.{is_use_before, name_of, picked, IsNotedIf, IsNoted, AreLackingBelow, AreLackingUpTo, numbers_left}
+use Rattle.attr_assess.specs.inside.Uses.{is_use_before, name_of, picked, IsNotedIf, IsNoted, AreLackingBelow, AreLackingUpTo}
 use Rattle.attr_assess.specs.declared.added.AddedUse.{AddedUse}
 use Rattle.attr_assess.specs.declared.lacking.Lacking.{Lacking}
 use Rattle.attr_assess.proofs.Names.{found-none, found-gap, found-step}
-use Rattle.attr_assess.proofs.Needs.{none-missing, none-added, useless-missing, useless-added}
+use Rattle.attr_assess.proofs.Needs.{none-missing, none-added}
 use Rattle.attr_assess.proofs.Orders.{those-permutation, names-sorted}
 
 module _ (names : NameTable) (t : Tables) (uses : List UseAt) (given : List NamedText) where
@@ -58,15 +58,16 @@ module _ (names : NameTable) (t : Tables) (uses : List UseAt) (given : List Name
     uses_are = noted-uses (is_added t uses given n) n old.added new.added a below.uses_are;
   }
 
-  -- a turn: the next name that is needed, and then the one behind it
-  pub lacking-turn : (n : ℕ) (next : Option ℕ) (old new : Lacking) → AreLackingUpTo names t uses given (Some n) old →
-      new.missing ≡ old.missing ++ picked (is_missing t uses given n) n → IsNoted names t uses given n old.added new.added →
-      IsNext t uses (n + 1) next → AreLackingUpTo names t uses given next new
-  lacking-turn n next old new w m a after =
-      (n + 1, omega (arith, w.2.within), after, lacking-step n old new (lacking-gap w.0 n old w.2.behind w.2.none w.3) m a)
+  -- a turn: the next name that is needed
+  pub lacking-turn : (one : NeededUse) (more : List NeededUse) (old new : Lacking) → AreLackingUpTo names t uses given (one ∷ more) old →
+      new.missing ≡ old.missing ++ picked (is_missing t uses given one.name) one.name → IsNoted names t uses given one.name old.added new.added → AreLackingUpTo names t uses given more new
+  lacking-turn one more old new w m a =
+      let next = w.2.0 in
+      let within = next.within in
+      (one.name + 1, omega (arith, within), w.2.2, lacking-step one.name old new (lacking-gap w.0 one.name old next.behind next.none w.3) m a)
 
   -- past the last
-  pub lacking-end : (lacking : Lacking) → AreLackingUpTo names t uses given None lacking → AreLackingBelow names t uses given (2 ^ 32) lacking
+  pub lacking-end : (lacking : Lacking) → AreLackingUpTo names t uses given [] lacking → AreLackingBelow names t uses given (2 ^ 32) lacking
   lacking-end lacking w = lacking-gap w.0 (2 ^ 32) lacking w.1 w.2 w.3
 
   -- and sorted
@@ -92,10 +93,9 @@ lacking-put names t uses given missing added before after final below e moved up
     (subst (λ xs. IsPermutation xs final) e (subst (λ ys. IsPermutation before ys) (sym f) moved))
     (subst (IsSortedBy is_use_before) (sym f) up)
 
--- the next name is a later one
-pub next-smaller : (t : Tables) (uses : List UseAt) (n : ℕ) (next : Option ℕ) → n < 2 ^ 32 → IsNext t uses (n + 1) next → numbers_left next < numbers_left (Some n)
-next-smaller t uses n None h is = omega arith
-next-smaller t uses n (Some m) h is = omega (arith, is.behind, is.within)
+pub no-length : {X : Type 0} (xs : List X) → length xs ≡ 0 → xs ≡ []
+no-length [] e = refl
+no-length (x ∷ xs) e = absurd (omega (arith, e))
 
 -- without uses nothing is missing, and nothing is added
 pub nothing-missing : (t : Tables) (given : List NamedText) → AreThose (is_missing t [] given) (2 ^ 32) []

@@ -2,6 +2,7 @@ pub mod Instance
 pub mod Governing
 pub mod Schema
 pub mod Lacking
+pub mod Known
 pub mod Order
 pub mod Added
 pub mod Values

@@ -5,14 +5,15 @@ ghost use Rattle.component_references.specs.Heights.{IsType};
 ghost use Rattle.attr_assess.specs.Governing.{uses_for};
 ghost use Rattle.attr_assess.specs.Schema.{IsAttrSet};
 ghost use Rattle.attr_assess.specs.Added.{AreNamed};
+ghost use Rattle.attr_assess.specs.Known.{AreKnownUses};
 ghost use Rattle.attr_assess.specs.Types.{IsTypeSet};
 ghost use Rattle.attr_assess.specs.Assessed.{AreAttrsAssessed, IsGivenJudged};
-ghost use Rattle.attr_assess.specs.inside.Lists.{Holds, HoldsEach, HoldsLacking, IsUseJudged};
+ghost use Rattle.attr_assess.specs.inside.Lists.{Holds, HoldsEach, HoldsLacking, IsUse, IsUseJudged};
 
 use crate::{
     AddedUse, AttrGoverning, AttrItem, AttrSchema, JudgedAttr, Lacking, judge, lacking_attrs,
 };
-use assess_records::{AttrRecords, NamedText, ValueSource};
+use assess_records::{AttrRecords, NamedText, Shared, ValueSource};
 use simple_types::SimpleTypes;
 use simple_values::Value;
 use std::alloc::{AllocError, Global};
@@ -21,7 +22,7 @@ use xs_lists::Listed;
 use xs_names::Scope;
 
 /// The values of an element's attributes, place by place; `None` where the text is not valid, or is not assessed.
-pub type AttrValues = Listed<Option<Value>>;
+pub type AttrValues = Listed<Shared<Option<Value>>>;
 
 /// What is found out about an element's attributes.
 #[derive(Drop)]
@@ -53,6 +54,7 @@ pub fn assess_attrs(
     requires types { IsTypeSet schema.now.parts.now types.old }
     requires there { IfSome of (IsType schema.now.parts.now) }
     requires named { AreNamed schema.now.names.now schema.now.parts.now }
+    requires known { AreKnownUses schema.now.parts.now schema.now.known.now }
     requires given { All (λ attr. attr.name < length schema.now.names.now.names) attrs.now }
     ensures assessed { IfOk result (AreAttrsAssessed schema.now.names.now schema.now.parts.now of scope.now attrs.now) }
     ensures same { types.new ≡ types.old }
@@ -94,6 +96,7 @@ impl AssessedAttrs {
         requires types { IsTypeSet schema.now.parts.now types.old }
         requires there { IfSome of.now (IsType schema.now.parts.now) }
         requires named { AreNamed schema.now.names.now schema.now.parts.now }
+        requires known { AreKnownUses schema.now.parts.now schema.now.known.now }
         requires given { All (λ attr. attr.name < length schema.now.names.now.names) attrs.now }
         ensures assessed { OnOk result (AreAttrsAssessed schema.now.names.now schema.now.parts.now of.now scope.now attrs.now self.new) }
         ensures same { types.new ≡ types.old }
@@ -118,12 +121,13 @@ impl AssessedAttrs {
         requires types { IsTypeSet schema.now.parts.now types.old }
         requires there { IsType schema.now.parts.now of.now }
         requires named { AreNamed schema.now.names.now schema.now.parts.now }
+        requires known { AreKnownUses schema.now.parts.now schema.now.known.now }
         ensures lacking { OnOk result (HoldsLacking schema.now.names.now schema.now.parts.now (uses_for schema.now.parts.now of.now).uses attrs.now self.old self.new) }
         ensures same { types.new ≡ types.old }
     {
         let Lacking { missing, added } = lacking_attrs(alloc, schema, *of, attrs)?;
         self.missing = missing;
-        self.add_uses(alloc, schema.parts, types, added.as_slice())
+        self.add_uses(alloc, schema, types, added.as_slice())
     }
 
     // Adds the attributes that the element has.
@@ -161,26 +165,18 @@ impl AssessedAttrs {
     fn add_uses(
         &mut self,
         alloc: Global,
-        parts: &Components,
+        schema: &AttrSchema<'_>,
         types: &mut SimpleTypes,
         uses: &[AddedUse<'_>],
     ) -> Result<(), AllocError>
-        requires types { IsTypeSet parts.now types.old }
-        ensures held { OnOk result (HoldsEach (IsUseJudged parts.now) uses.now self.old self.new) }
+        requires types { IsTypeSet schema.now.parts.now types.old }
+        requires known { AreKnownUses schema.now.parts.now schema.now.known.now }
+        requires written { All (IsUse schema.now.parts.now) uses.now }
+        ensures held { OnOk result (HoldsEach (IsUseJudged schema.now.parts.now) uses.now self.old self.new) }
         ensures same { types.new ≡ types.old }
     {
         for added in uses {
-            let item = AttrItem {
-                name: added.name,
-                source: ValueSource::Schema,
-                scope: &added.constraint.scope,
-                text: added.constraint.text.as_str(),
-            };
-            let governing = AttrGoverning::Declared {
-                attribute: added.attribute,
-                by: Some(added.at),
-            };
-            let judged = judge(alloc, parts, types, &item, governing)?;
+            let judged = judged_use(alloc, schema, types, added)?;
             self.push(judged)?;
         }
         Ok(())
@@ -192,4 +188,46 @@ impl AssessedAttrs {
         self.records.push(judged.known)?;
         self.values.push(judged.value)
     }
+}
+
+// The attribute of a use with the text of its constraint: what is known of it, or else what it is judged to be.
+fn judged_use(
+    alloc: Global,
+    schema: &AttrSchema<'_>,
+    types: &mut SimpleTypes,
+    added: &AddedUse<'_>,
+) -> Result<JudgedAttr, AllocError>
+    requires types { IsTypeSet schema.now.parts.now types.old }
+    requires known { AreKnownUses schema.now.parts.now schema.now.known.now }
+    requires written { IsUse schema.now.parts.now added.now }
+    ensures judged { IfOk result (IsUseJudged schema.now.parts.now added.now) }
+    ensures same { types.new ≡ types.old }
+{
+    match schema.known.at(added.at) {
+        Some(judged) => judged.again(),
+        None => judge_use(alloc, schema.parts, types, added),
+    }
+}
+
+fn judge_use(
+    alloc: Global,
+    parts: &Components,
+    types: &mut SimpleTypes,
+    added: &AddedUse<'_>,
+) -> Result<JudgedAttr, AllocError>
+    requires types { IsTypeSet parts.now types.old }
+    ensures judged { IfOk result (IsUseJudged parts.now added.now) }
+    ensures same { types.new ≡ types.old }
+{
+    let item = AttrItem {
+        name: added.name,
+        source: ValueSource::Schema,
+        scope: &added.constraint.scope,
+        text: added.constraint.text.as_str(),
+    };
+    let governing = AttrGoverning::Declared {
+        attribute: added.attribute,
+        by: Some(added.at),
+    };
+    judge(alloc, parts, types, &item, governing)
 }

@@ -1,16 +1,13 @@
 //! The attribute use of a name, as it is written.
 
-ghost use Rattle.std.specs.Prelude.{◌≡◌, ◌<◌, List, Bool, Some, None, length, slice_get, IfSome, IfNone, MatchOption};
+ghost use Rattle.std.specs.Prelude.{◌≡◌, ◌<◌, None, length, IfSome, IfNone, MatchOption};
 ghost use Rattle.std.specs.Option.{option_copied};
-ghost use Rattle.attr_uses.specs.Uses.{AttrUses};
-ghost use Rattle.attr_uses.specs.Tables.{StandsFor, IsStore};
 ghost use Rattle.attr_uses.specs.Written.{use_name};
-ghost use Rattle.attr_assess.specs.Lacking as spec;
 ghost use Rattle.attr_assess.specs.inside.Uses as inside;
 
 use crate::added::space_text;
 use crate::{AddedUse, AttrSchema};
-use attr_uses::{KeptTable, UseAt, use_at};
+use attr_uses::{UseAt, use_at};
 use xs_components::{AttrUse, AttributeDecl, Components, ValueConstraint};
 
 /// An attribute use: where it is written, what is, and its declaration.
@@ -21,25 +18,8 @@ pub(crate) struct FoundUse<'a> {
     pub decl: &'a AttributeDecl,
 }
 
-/// The use of the name of a number.
-pub(crate) fn found_use<'a>(
-    schema: &AttrSchema<'a>,
-    table: &KeptTable,
-    number: u32,
-) -> Option<FoundUse<'a>>
-    requires store { IsStore schema.now.tables.now.store }
-    requires table { (ids : List Bool) × (value : AttrUses) × StandsFor schema.now.parts.now ids schema.now.tables.now.store table.now value }
-    ensures found { (ids : List Bool) (value : AttrUses) → StandsFor schema.now.parts.now ids schema.now.tables.now.store table.now value → IfSome result (inside.IsFoundUse schema.now.parts.now value.uses number) }
-    ensures none { (ids : List Bool) (value : AttrUses) → StandsFor schema.now.parts.now ids schema.now.tables.now.store table.now value → IfNone result (spec.part_named schema.now.parts.now value.uses number ≡ None) }
-{
-    match schema.tables.use_numbered(*table, number) {
-        None => None,
-        Some(at) => written_use(schema.parts, at),
-    }
-}
-
-// What is written in a place.
-fn written_use(parts: &Components, at: UseAt) -> Option<FoundUse<'_>>
+/// What is written in a place.
+pub(crate) fn written_use(parts: &Components, at: UseAt) -> Option<FoundUse<'_>>
     ensures found { IfSome result (inside.IsWritten parts.now at) }
     ensures none { IfNone result (use_name parts.now at ≡ None) }
 {
@@ -72,8 +52,8 @@ impl<'a> FoundUse<'a> {
         })
     }
 
-    // Its effective value constraint (Structures 3.4.6).
-    fn constraint(&self) -> Option<&'a ValueConstraint>
+    /// Its effective value constraint (Structures 3.4.6).
+    pub(crate) fn constraint(&self) -> Option<&'a ValueConstraint>
         ensures { option_copied result ≡ inside.constraint_of self.now }
     {
         match self.part.value.as_ref() {

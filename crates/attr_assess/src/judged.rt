@@ -11,7 +11,7 @@ ghost use Rattle.component_references.specs.Ranked.{IsRanked};
 use crate::AttrGoverning;
 use crate::records::{declared, undeclared};
 use crate::values::read_text;
-use assess_records::{AttrRecord, ValueSource};
+use assess_records::{AttrRecord, Shared, ValueSource};
 use attr_uses::{UseAt, use_at};
 use simple_types::SimpleTypes;
 use simple_values::Value;
@@ -31,8 +31,24 @@ pub struct AttrItem<'a> {
 /// What is found out about an attribute, and the value of its text, where this is valid by the type of its declaration.
 #[derive(Drop)]
 pub struct JudgedAttr {
-    pub known: AttrRecord,
-    pub value: Option<Value>,
+    pub known: Shared<AttrRecord>,
+    pub value: Shared<Option<Value>>,
+}
+
+impl JudgedAttr {
+    /// The same once more: it is shared, and not copied.
+    ///
+    /// # Errors
+    ///
+    /// `AllocError` is want of memory.
+    pub(crate) fn again(&self) -> Result<JudgedAttr, AllocError>
+        ensures { IfOk result (λ judged. judged ≡ self.now) }
+    {
+        Ok(JudgedAttr {
+            known: self.known.try_clone()?,
+            value: self.value.try_clone()?,
+        })
+    }
 }
 
 /// The record and the value of an attribute, by what governs it.

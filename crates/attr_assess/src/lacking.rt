@@ -1,11 +1,11 @@
 //! The attributes that an element lacks.
 
-ghost use Rattle.std.specs.Prelude.{◌≡◌, ◌==◌, ◌+◌, ◌^◌, ◌++◌, List, [], Bool, map, IfOk, OnOk};
+ghost use Rattle.std.specs.Prelude.{◌≡◌, ◌==◌, ◌^◌, ◌++◌, List, [], Bool, Some, IfOk, OnOk};
 ghost use Rattle.std.specs.List.{list_any};
-ghost use Rattle.xs_components.specs.Tables.{Tables};
 ghost use Rattle.component_references.specs.Heights.{IsType};
-ghost use Rattle.attr_uses.specs.Uses.{AttrUses};
-ghost use Rattle.attr_uses.specs.Tables.{StandsFor, IsStore, IsNext};
+ghost use Rattle.attr_uses.specs.declared.entry.UseAt.{UseAt};
+ghost use Rattle.attr_uses.specs.Uses.{AttrUses, use_named};
+ghost use Rattle.attr_uses.specs.Tables.{StandsFor, IsStore, AreNeeded};
 ghost use Rattle.attr_assess.specs.Governing.{uses_for};
 ghost use Rattle.attr_assess.specs.Schema.{IsAttrSet};
 ghost use Rattle.attr_assess.specs.Lacking as spec;
@@ -14,9 +14,9 @@ ghost use Rattle.attr_assess.specs.inside.Uses as inside;
 
 use crate::AttrSchema;
 use crate::added::{AddedUse, sort_by_name};
-use crate::found::found_use;
+use crate::found::written_use;
 use assess_records::NamedText;
-use attr_uses::{AttrTables, KeptTable};
+use attr_uses::{KeptTable, NeededUse};
 use std::alloc::{AllocError, Global};
 use xs_components::{NameIdList, TypeId};
 use xs_lists::Listed;
@@ -73,25 +73,9 @@ fn lacking_in<'a>(
     ensures lacking { (ids : List Bool) (value : AttrUses) → StandsFor schema.now.parts.now ids schema.now.tables.now.store table.now value → IfOk result (inside.AreLackingBelow schema.now.names.now schema.now.parts.now value.uses given.now (2 ^ 32)) }
 {
     let mut lacking = Lacking::new(alloc);
-    let mut next = schema.tables.next_needed(*table, 0);
-    while let Some(number) = next {
-        lacking.note(schema, table, given, number)?;
-        next = next_after(schema.tables, table, number);
-    }
+    let needed = schema.tables.needed(alloc, *table)?;
+    lacking.note_all(schema, needed.as_slice(), given)?;
     Ok(lacking)
-}
-
-// The next number of a name behind this one whose use is required or has a value constraint.
-fn next_after(tables: &AttrTables, table: &KeptTable, number: u32) -> Option<u32>
-    requires store { IsStore tables.now.store }
-    requires table { (t : Tables) × (ids : List Bool) × (value : AttrUses) × StandsFor t ids tables.now.store table.now value }
-    ensures next { (t : Tables) (ids : List Bool) (value : AttrUses) → StandsFor t ids tables.now.store table.now value → IsNext t value.uses (number + 1) result }
-{
-    if number < u32::MAX {
-        tables.next_needed(*table, number + 1)
-    } else {
-        None
-    }
 }
 
 impl<'a> Lacking<'a> {
@@ -105,21 +89,38 @@ impl<'a> Lacking<'a> {
         }
     }
 
-    // Adds the name of a number, if the element lacks it.
+    // Adds those of these names that the element lacks, each with the place of its use.
+    fn note_all(
+        &mut self,
+        schema: &AttrSchema<'a>,
+        needed: &[NeededUse],
+        given: &[NamedText],
+    ) -> Result<(), AllocError>
+        requires named { AreNamed schema.now.names.now schema.now.parts.now }
+        requires missing { self.old.missing ≡ [] }
+        requires added { self.old.added ≡ [] }
+        ensures lacking { OnOk result ((uses : List UseAt) → AreNeeded schema.now.parts.now uses 0 needed.now → inside.AreLackingBelow schema.now.names.now schema.now.parts.now uses given.now (2 ^ 32) self.new) }
+    {
+        let mut left = needed;
+        'uses: while let Some((one, more)) = left.split_first() {
+            self.note(schema, one, given)?;
+            left = more;
+        }
+        Ok(())
+    }
+
+    // Adds the name of a number whose use is written in a place, if the element lacks it.
     fn note(
         &mut self,
         schema: &AttrSchema<'a>,
-        table: &KeptTable,
+        one: &NeededUse,
         given: &[NamedText],
-        number: u32,
     ) -> Result<(), AllocError>
-        requires store { IsStore schema.now.tables.now.store }
         requires named { AreNamed schema.now.names.now schema.now.parts.now }
-        requires table { (ids : List Bool) × (value : AttrUses) × StandsFor schema.now.parts.now ids schema.now.tables.now.store table.now value }
-        ensures missing { (ids : List Bool) (value : AttrUses) → StandsFor schema.now.parts.now ids schema.now.tables.now.store table.now value → OnOk result (self.new.missing ≡ self.old.missing ++ inside.picked (spec.is_missing schema.now.parts.now value.uses given.now number) number) }
-        ensures added { (ids : List Bool) (value : AttrUses) → StandsFor schema.now.parts.now ids schema.now.tables.now.store table.now value → OnOk result (inside.IsNoted schema.now.names.now schema.now.parts.now value.uses given.now number self.old.added self.new.added) }
+        ensures missing { (uses : List UseAt) → use_named schema.now.parts.now uses one.now.name ≡ Some one.now.at → OnOk result (self.new.missing ≡ self.old.missing ++ inside.picked (spec.is_missing schema.now.parts.now uses given.now one.now.name) one.now.name) }
+        ensures added { (uses : List UseAt) → use_named schema.now.parts.now uses one.now.name ≡ Some one.now.at → OnOk result (inside.IsNoted schema.now.names.now schema.now.parts.now uses given.now one.now.name self.old.added self.new.added) }
     {
-        let Some(found) = found_use(schema, table, number) else {
+        let Some(found) = written_use(schema.parts, one.at) else {
             return Ok(());
         };
         let name = found.decl.name;

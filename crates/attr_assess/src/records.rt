@@ -4,7 +4,7 @@ ghost use Rattle.std.specs.Prelude.{◌≡◌, ◌++◌, IfOk, OnOk};
 ghost use Rattle.attr_assess.specs.Records as spec;
 
 use crate::{AttrText, JudgedAttr};
-use assess_records::{Attempted, AttrRecord, Codes, Validity, ValueSource};
+use assess_records::{Attempted, AttrRecord, Codes, Shared, Validity, ValueSource};
 use simple_values::Value;
 use std::alloc::{AllocError, Global};
 use xs_codes::{Code, Found};
@@ -65,8 +65,8 @@ pub(crate) fn undeclared(
     let mut codes = Codes::new(alloc);
     add_if(&mut codes, code)?;
     Ok(JudgedAttr {
-        known: attr_record(name, None, source, codes),
-        value: None,
+        known: Shared::new(alloc, attr_record(name, None, source, codes))?,
+        value: Shared::new(alloc, None)?,
     })
 }
 
@@ -82,8 +82,8 @@ pub(crate) fn declared(
 {
     let codes = text_codes(alloc, &read)?;
     Ok(JudgedAttr {
-        known: attr_record(name, Some(*of), source, codes),
-        value: value_in(read),
+        known: Shared::new(alloc, attr_record(name, Some(*of), source, codes))?,
+        value: Shared::new(alloc, value_in(read))?,
     })
 }
 

@@ -1,13 +1,12 @@
 -- What the calls ask for and give, on plain variables.
-use Rattle.std.proofs.Common.{◌≡◌, ℕ, suc, ◌+◌, ◌-◌, ◌*◌, ◌^◌, ◌<◌, ◌≤◌, Bool, false, List, Option, None, Some, Result, Ok, Err, length, refl, sym, ap, ◌∙◌, subst, arith}
+use Rattle.std.proofs.Common.{◌≡◌, ℕ, suc, ◌-◌, ◌*◌, ◌^◌, ◌<◌, ◌≤◌, Bool, false, List, Option, Result, Ok, Err, length, refl, sym, ap, ◌∙◌, subst, arith}
 use Rattle.std.specs.Prelude.{IfOk, IsTrue}
-use Rattle.std.specs.Option.{option_map}
 use Rattle.std.proofs.Math.Nat.{pow-suc}
 use Rattle.attr_uses.specs.declared.entry.Entry.{Entry}
 use Rattle.attr_uses.specs.declared.join.Join.{Join}
 use Rattle.attr_uses.specs.declared.node.Node.{Node}
 use Rattle.attr_uses.specs.Nodes.{node_left, node_right, node_at, node_sum, find, IsMap, IsNoLeaf, AreNodes, Grows}
-use Rattle.attr_uses.specs.Maps.{MapNodes, IsMapOf, KeepsMaps, TwoAre, entry_is, NoneNeeded, IsLeast, IsNext}
+use Rattle.attr_uses.specs.Maps.{MapNodes, IsMapOf, KeepsMaps, TwoAre, entry_is, NoneNeeded}
 use Rattle.attr_uses.specs.Steps.{Grown, Puts, Combines}
 use Rattle.attr_uses.proofs.GrowLaws.{below, above, node-kept}
 use Rattle.attr_uses.proofs.MapLaws.{combines-fork}
@@ -15,7 +14,6 @@ use Rattle.attr_uses.proofs.NodeLaws.{puts-lower, puts-upper}
 use Rattle.attr_uses.proofs.StepLaws.{keeps}
 use Rattle.attr_uses.proofs.SumLaws.{sum-none}
 use Rattle.attr_uses.proofs.TwoLaws.{two-found, two-there}
-use Rattle.attr_uses.proofs.NextLaws.{next-lower, next-upper}
 
 pub one-less : (levels : ℕ) → 0 < levels → levels ≡ suc (levels - 1)
 one-less levels h = omega (arith, h)
@@ -88,28 +86,8 @@ module _ (maps : MapNodes) (are : AreNodes maps.nodes) (top : ℕ) (has : ℕ �
 
 -- what no entry below a node needs
 module _ (ns : List Node) (are : AreNodes ns) (levels at from : ℕ) (here : at < length ns) (shape : IsMap ns levels at) where
-  pub none-needed : (node_sum (node_at ns at)).needed ≡ false → IsNext levels (find ns levels at) from None
+  pub none-needed : (node_sum (node_at ns at)).needed ≡ false → NoneNeeded (find ns levels at) from (2 ^ levels)
   none-needed e = λ name a b. sum-none ns are (λ e. e.needed) (λ s. s.needed) refl (λ e. refl) (λ a b. refl) levels at here shape e name b
-
-  module _ (pos : 0 < levels) where
-    abbrev lower : ℕ → Option Entry
-    lower = find ns (levels - 1) (node_left (node_at ns at))
-
-    abbrev upper : ℕ → Option Entry
-    upper = find ns (levels - 1) (node_right (node_at ns at))
-
-    back : (next : Option ℕ) → IsNext (suc (levels - 1)) (find ns levels at) from next → IsNext levels (find ns levels at) from next
-    back next h = subst (λ k. IsNext k (find ns levels at) from next) (sym (one-less levels pos)) h
-
-    pub next-in-upper : NoneNeeded lower from (2 ^ (levels - 1)) → (start : ℕ) → start ≡ from - 2 ^ (levels - 1) → (next result : Option ℕ) → IsNext (levels - 1) upper start next → result ≡ option_map (λ m. 2 ^ (levels - 1) + m) next → IsNext levels (find ns levels at) from result
-    next-in-upper low start is next result h e =
-        subst (IsNext levels (find ns levels at) from) (sym e)
-        (back (option_map (λ m. 2 ^ (levels - 1) + m) next)
-        (next-upper (levels - 1) (find ns levels at) lower upper (half-lower ns levels at pos shape) (half-upper ns levels at pos shape) from low next (subst (λ s. IsNext (levels - 1) upper s next) is h)))
-
-    pub next-in-lower : (name : ℕ) → IsLeast (levels - 1) lower from name → IsNext levels (find ns levels at) from (Some name)
-    next-in-lower name h =
-        back (Some name) (next-lower (levels - 1) (find ns levels at) lower upper (half-lower ns levels at pos shape) (half-upper ns levels at pos shape) from name h)
 
 pub small-upper : (levels name : ℕ) → 0 < levels → name < 2 ^ levels → 2 ^ (levels - 1) ≤ name → name - 2 ^ (levels - 1) < 2 ^ (levels - 1)
 small-upper levels name pos h a =

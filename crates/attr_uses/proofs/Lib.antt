@@ -2,7 +2,6 @@ pub mod GrowLaws
 pub mod MapLaws
 pub mod NodeLaws
 pub mod SumLaws
-pub mod NextLaws
 pub mod UnlikeLaws
 pub mod TwoLaws
 pub mod StepLaws
@@ -16,3 +15,4 @@ pub mod FillLaws
 pub mod MadeLaws
 pub mod TypeLaws
 pub mod ReadLaws
+pub mod NeededLaws

@@ -1,15 +1,20 @@
 -- What is read from the map of attribute uses.
-use Rattle.std.proofs.Common.{◌≡◌, ℕ, ◌^◌, ◌<◌, Bool, List, [], ◌∷◌, Option, None, Some, filter, refl, sym, ap, subst, ◌∙◌}
+use Rattle.std.proofs.Common.{◌≡◌, ℕ, ◌+◌, ◌^◌, ◌<◌, Bool, true, List, [], ◌∷◌, Option, None, Some, filter, refl, sym, ap, subst, ◌∙◌}
 use Rattle.std.specs.Prelude.{IsTrue, ◌↔◌}
-use Rattle.std.specs.Option.{option_map}
+use Rattle.std.specs.Option.{option_map, IsSomeAnd}
 use Rattle.xs_components.specs.Tables.{Tables}
-use Rattle.attr_uses.specs.Maps.{entry_is, SomeIs, TwoAre, IsLeast}
+use Rattle.attr_uses.specs.Maps.{entry_is, SomeIs, TwoAre}
 use Rattle.attr_uses.specs.Maps as maps
 use Rattle.attr_uses.specs.declared.entry.Entry.{Entry}
 use Rattle.attr_uses.specs.declared.entry.UseAt.{UseAt}
+use Rattle.attr_uses.specs.declared.entry.NeededUse.{NeededUse}
 use Rattle.attr_uses.specs.Written.{has_name}
 use Rattle.attr_uses.specs.Uses.{first_of, use_named}
-use Rattle.attr_uses.specs.Tables.{entry_of, entry_for, has_another, is_id_named, is_needed_named, HasTwoOfOneName, HasTwoIds, IsNext, IsNextUnlike}
+use Rattle.attr_uses.specs.Tables.{entry_of, entry_for, has_another, is_id_named, is_needed_named, HasTwoOfOneName, HasTwoIds, AreNeeded, IsNextUnlike}
+
+some-needed : (o : Option Entry) (at : UseAt) → IsSomeAnd o (λ entry. (entry.needed ≡ true) × (entry.first ≡ at)) → (entry_is (λ e. e.needed) o ≡ true) × (option_map (λ e. e.first) o ≡ Some at)
+some-needed None at is = absurd is
+some-needed (Some entry) at is = (is.0, ap Some is.1)
 
 module _ (t : Tables) (ids : List Bool) where
   entry-first : (us : List UseAt) → option_map (λ e. e.first) (entry_of t ids us) ≡ first_of us
@@ -50,14 +55,20 @@ module _ (t : Tables) (ids : List Bool) where
       λ w. told.1 (w.0, w.1, w.2, without w.1 w.3, entry-id (filter (has_name t w.0) uses) ∙ w.4, entry-id (filter (has_name t w.1) uses) ∙ w.5),
     )
 
-    pub next-needed : (from : ℕ) (next : Option ℕ) → maps.IsNext depth (entry_for t ids uses) from next → IsNext t uses from next
-    next-needed from None none = λ name a b. sym (entry-needed (filter (has_name t name) uses)) ∙ none name a (without name b)
-    next-needed from (Some name) is = record {
-      behind = is.behind;
-      within = within name is.within;
-      needed = sym (entry-needed (filter (has_name t name) uses)) ∙ is.needed;
-      none = λ other a b. sym (entry-needed (filter (has_name t other) uses)) ∙ is.none other a b;
-    }
+    pub all-needed : (from : ℕ) (xs : List NeededUse) → maps.AreNeeded (entry_for t ids uses) from (2 ^ depth) xs → AreNeeded t uses from xs
+    all-needed from [] none = λ name a b. sym (entry-needed (filter (has_name t name) uses)) ∙ none name a (without name b)
+    all-needed from (x ∷ xs) are =
+        let is = are.0 in
+        let told = some-needed (entry_for t ids uses x.name) x.at is.needed in (
+          record {
+            behind = is.behind;
+            within = within x.name is.within;
+            needed = sym (entry-needed (filter (has_name t x.name) uses)) ∙ told.0;
+            none = λ other a b. sym (entry-needed (filter (has_name t other) uses)) ∙ is.none other a b;
+          },
+          sym (entry-first (filter (has_name t x.name) uses)) ∙ told.1,
+          all-needed (x.name + 1) xs are.1,
+        )
 
   same-named : (uses others : List UseAt) (name : ℕ) → entry_for t ids uses name ≡ entry_for t ids others name → use_named t uses name ≡ use_named t others name
   same-named uses others name e = sym (entry-first (filter (has_name t name) uses)) ∙ (ap (option_map (λ x. x.first)) e ∙ entry-first (filter (has_name t name) others))

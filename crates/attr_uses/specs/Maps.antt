@@ -1,6 +1,8 @@
 -- Maps from numbers of names to entries.
-use Rattle.std.specs.Prelude.{◌≡◌, ℕ, ◌^◌, ◌<◌, ◌≤◌, Bool, true, false, List, Option, None, Some, length, IsTrue, MatchOption}
+use Rattle.std.specs.Prelude.{◌≡◌, ℕ, ◌+◌, ◌-◌, ◌^◌, ◌<◌, ◌≤◌, Bool, true, false, List, [], ◌∷◌, ◌++◌, Option, None, Some, length, IsTrue, MatchOption}
+use Rattle.std.specs.Option.{IsSomeAnd}
 use Rattle.attr_uses.specs.declared.entry.Entry.{Entry}
+use Rattle.attr_uses.specs.declared.entry.NeededUse.{NeededUse}
 use Rattle.attr_uses.specs.declared.node.Node.{Node}
 use Rattle.attr_uses.specs.Nodes.{find, IsMap}
 
@@ -40,15 +42,22 @@ is_needed = entry_is (λ e. e.needed)
 abbrev pub NoneNeeded : (ℕ → Option Entry) → ℕ → ℕ → Type 0
 NoneNeeded entries from bound = (name : ℕ) → from ≤ name → name < bound → is_needed (entries name) ≡ false
 
-pub record IsLeast (depth : ℕ) (entries : ℕ → Option Entry) (from name : ℕ) : Type 0 where
-  pub behind : from ≤ name
-  pub within : name < 2 ^ depth
-  pub needed : is_needed (entries name) ≡ true
-  pub none : NoneNeeded entries from name
+-- the first needed name from a number on, below another, and the first use of it
+pub record IsFirstNeeded (entries : ℕ → Option Entry) (from bound : ℕ) (one : NeededUse) : Type 0 where
+  pub behind : from ≤ one.name
+  pub within : one.name < bound
+  pub needed : IsSomeAnd (entries one.name) (λ entry. (entry.needed ≡ true) × (entry.first ≡ one.at))
+  pub none : NoneNeeded entries from one.name
 
--- the least name from a number on whose entry is needed, if there is one
-abbrev pub IsNext : ℕ → (ℕ → Option Entry) → ℕ → Option ℕ → Type 0
-IsNext depth entries from next = MatchOption next (NoneNeeded entries from (2 ^ depth)) (IsLeast depth entries from)
+-- all needed names from a number on, below another, the least first, and the first use of each
+abbrev pub AreNeeded : (ℕ → Option Entry) → ℕ → ℕ → List NeededUse → Type 0
+AreNeeded entries from bound [] = NoneNeeded entries from bound
+AreNeeded entries from bound (one ∷ more) = IsFirstNeeded entries from bound one × AreNeeded entries (one.name + 1) bound more
+
+-- Those of a part that has the names from a number on, so many levels, stand behind what there was.
+abbrev pub ArePut : (ℕ → Option Entry) → ℕ → ℕ → List NeededUse → List NeededUse → Type 0
+ArePut entries levels from old new =
+    (found : List NeededUse) × (new ≡ old ++ found) × AreNeeded (λ name. entries (name - from)) from (from + 2 ^ levels) found
 
 -- two maps have the same for the names from a number on, below another
 abbrev pub AreAlike : (ℕ → Option Entry) → (ℕ → Option Entry) → ℕ → ℕ → Type 0

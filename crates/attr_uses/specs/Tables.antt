@@ -1,5 +1,5 @@
 -- What stands for the attribute uses of types and of attribute groups.
-use Rattle.std.specs.Prelude.{◌≡◌, ℕ, ◌^◌, ◌<◌, ◌≤◌, Bool, true, false, ◌||◌, not, List, [], ◌∷◌, Option, None, Some, Result, Ok, Err, ⊤, filter, length, slice_get, slice_index_or, MatchOption}
+use Rattle.std.specs.Prelude.{◌≡◌, ℕ, ◌+◌, ◌^◌, ◌<◌, ◌≤◌, Bool, true, false, ◌||◌, not, List, [], ◌∷◌, Option, None, Some, Result, Ok, Err, ⊤, filter, length, slice_get, slice_index_or, MatchOption}
 use Rattle.std.specs.List.{list_any}
 use Rattle.std.specs.Option.{is_some}
 use Rattle.xs_codes.specs.declared.fault.Fault.{Fault}
@@ -13,6 +13,7 @@ use Rattle.attr_uses.specs.Entries.{same_use}
 use Rattle.attr_uses.specs.Maps.{MapNodes, IsMapOf}
 use Rattle.attr_uses.specs.declared.entry.Entry.{Entry}
 use Rattle.attr_uses.specs.declared.entry.UseAt.{UseAt}
+use Rattle.attr_uses.specs.declared.entry.NeededUse.{NeededUse}
 use Rattle.attr_uses.specs.Written.{use_at, has_name}
 use Rattle.attr_uses.specs.Uses.{AttrUses, uses_of, group_uses, use_named, is_listed, any_wildcard}
 use Rattle.attr_uses.specs.declared.store.KeptTable.{KeptTable}
@@ -131,15 +132,17 @@ is_needed_named t (Some u) = is_needed t u
 abbrev pub NoneNeeded : Tables → List UseAt → ℕ → ℕ → Type 0
 NoneNeeded t uses from bound = (name : ℕ) → from ≤ name → name < bound → is_needed_named t (use_named t uses name) ≡ false
 
+-- the least number of a name, from one on, whose first use is needed
 pub record IsNextNeeded (t : Tables) (uses : List UseAt) (from name : ℕ) : Type 0 where
   pub behind : from ≤ name
   pub within : name < 2 ^ 32
   pub needed : is_needed_named t (use_named t uses name) ≡ true
   pub none : NoneNeeded t uses from name
 
--- the least number of a name, from a number on, whose first use is needed, if there is one
-abbrev pub IsNext : Tables → List UseAt → ℕ → Option ℕ → Type 0
-IsNext t uses from next = MatchOption next (NoneNeeded t uses from (2 ^ 32)) (IsNextNeeded t uses from)
+-- the numbers, from one on, of all names whose first uses are needed, the least first, and the first use of each
+abbrev pub AreNeeded : Tables → List UseAt → ℕ → List NeededUse → Type 0
+AreNeeded t uses from [] = NoneNeeded t uses from (2 ^ 32)
+AreNeeded t uses from (one ∷ more) = IsNextNeeded t uses from one.name × (use_named t uses one.name ≡ Some one.at) × AreNeeded t uses (one.name + 1) more
 
 -- two lists of uses have the same first use of each name from one number on and below another
 abbrev pub AreAlike : Tables → List UseAt → List UseAt → ℕ → ℕ → Type 0

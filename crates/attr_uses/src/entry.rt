@@ -17,6 +17,13 @@ pub struct UseAt {
     pub place: usize,
 }
 
+/// The number of a name that an element has to be looked at for, and the first use of it.
+#[derive(Clone, Copy)]
+pub struct NeededUse {
+    pub name: u32,
+    pub at: UseAt,
+}
+
 /// What a map has for a name.
 #[derive(Clone, Copy)]
 pub struct Entry {

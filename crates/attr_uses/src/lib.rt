@@ -15,7 +15,7 @@ mod store;
 mod tables;
 mod wildcards;
 
-pub use entry::{Entry, UseAt, UseHolder};
+pub use entry::{Entry, NeededUse, UseAt, UseHolder};
 pub use join::Join;
 pub use maps::{UseMap, UseMaps};
 pub use store::KeptTable;

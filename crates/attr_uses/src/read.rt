@@ -1,12 +1,13 @@
-ghost use Rattle.std.specs.Prelude.{◌≡◌, ℕ, ◌+◌, ◌^◌, ◌<◌, ◌≤◌, ◌↔◌, Option, length, IsTrue, IfSome};
+ghost use Rattle.std.specs.Prelude.{◌≡◌, ℕ, ◌+◌, ◌^◌, ◌<◌, ◌≤◌, ◌↔◌, Option, length, IsTrue, IfSome, true, IfOk, OnOk};
 ghost use Rattle.std.specs.Option.{option_map};
 ghost use Rattle.attr_uses.specs.Nodes.{find, IsMap, AreNodes};
-ghost use Rattle.attr_uses.specs.Maps.{IsMapOf, SomeIs, TwoAre, IsNext, IsNextUnlike};
+ghost use Rattle.attr_uses.specs.Maps.{IsMapOf, SomeIs, TwoAre, AreNeeded, ArePut, IsNextUnlike};
 ghost use Rattle.attr_uses.specs.declared.entry.Entry.{Entry};
 
 use crate::grow::half_of;
 use crate::node::{Node, node_of};
-use crate::{Entry, UseMap, UseMaps};
+use crate::{Entry, NeededUse, UseMap, UseMaps};
+use std::alloc::{AllocError, Global};
 
 impl UseMaps {
     /// What a map has for a name.
@@ -33,12 +34,18 @@ impl UseMaps {
         node_of(&self.nodes, map.top).sum().two_ids
     }
 
-    /// The least name from this number on whose first use is needed.
-    pub fn next_needed(&self, map: UseMap, from: u32) -> Option<u32>
+    /// The names whose first uses are needed, the least first, each with that use.
+    ///
+    /// # Errors
+    ///
+    /// `AllocError` is want of memory.
+    pub fn needed(&self, alloc: Global, map: UseMap) -> Result<Vec<NeededUse>, AllocError>
         requires map { (has : ℕ → Option Entry) × IsMapOf self.now map.top has }
-        ensures next { (has : ℕ → Option Entry) → IsMapOf self.now map.top has → IsNext self.now.depth has from result }
+        ensures needed { (has : ℕ → Option Entry) → IsMapOf self.now map.top has → IfOk result (λ needed. AreNeeded has 0 (2 ^ self.now.depth) needed.items) }
     {
-        next_under(&self.nodes, self.depth, map.top, from)
+        let mut needed = Vec::new(alloc);
+        needed_under(&self.nodes, self.depth, map.top, 0, &mut needed)?;
+        Ok(needed)
     }
 
     /// The next name, from this number on, for which two maps may have different entries: they have the same for each name that
@@ -76,29 +83,49 @@ fn entry_under(nodes: &[Node], depth: u32, top: u32, name: u32) -> Option<Entry>
     node_of(nodes, at).entry()
 }
 
-// The least needed name from this number on, below a node of so many levels.
-fn next_under(nodes: &[Node], levels: u32, at: u32, from: u32) -> Option<u32>
+// Puts the needed names below a node of so many levels at the end, the least first, with their first uses. The names below it
+// begin at this number.
+fn needed_under(
+    nodes: &[Node],
+    levels: u32,
+    at: u32,
+    from: u32,
+    needed: &mut Vec<NeededUse>,
+) -> Result<(), AllocError>
     requires nodes { AreNodes nodes.now }
     requires levels { levels ≤ 32 }
     requires there { at < length nodes.now }
     requires shape { IsMap nodes.now levels at }
-    ensures next { IsNext levels (find nodes.now levels at) from result }
+    requires within { from + 2 ^ levels ≤ 2 ^ 32 }
+    ensures put { OnOk result (ArePut (find nodes.now levels at) levels from needed.old.items needed.new.items) }
 {
     let node = node_of(nodes, at);
     if !node.sum().needed {
-        return None;
+        return Ok(());
     }
     if levels == 0 {
-        return if from == 0 { Some(0) } else { None };
+        return put_entry(node.entry(), from, needed);
     }
     let half = half_of(levels - 1);
     let (left, right) = node.sides();
-    if from >= half {
-        return beyond(half, next_under(nodes, levels - 1, right, from - half));
-    }
-    match next_under(nodes, levels - 1, left, from) {
-        Some(name) => Some(name),
-        None => beyond(half, next_under(nodes, levels - 1, right, 0)),
+    needed_under(nodes, levels - 1, left, from, needed)?;
+    needed_under(nodes, levels - 1, right, from + half, needed)
+}
+
+// Puts a name with the first use of its entry at the end, if it has one.
+fn put_entry(found: Option<Entry>, name: u32, needed: &mut Vec<NeededUse>) -> Result<(), AllocError>
+    requires needed { IfSome found (λ entry. entry.needed ≡ true) }
+    ensures put { OnOk result (ArePut (λ key. found) 0 name needed.old.items needed.new.items) }
+{
+    match found {
+        None => Ok(()),
+        Some(entry) => {
+            needed.push(NeededUse {
+                name,
+                at: entry.first,
+            })?;
+            Ok(())
+        }
     }
 }
 

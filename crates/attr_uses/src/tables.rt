@@ -7,12 +7,12 @@ ghost use Rattle.component_references.specs.Ranked.{IsRanked};
 ghost use Rattle.attr_uses.specs.Written as written;
 ghost use Rattle.attr_uses.specs.Uses as spec;
 ghost use Rattle.attr_uses.specs.Uses.{AttrUses};
-ghost use Rattle.attr_uses.specs.Tables.{StandsFor, Answers, AreTablesOf, IsTableOf, HasTwoOfOneName, HasTwoIds, IsNext, IsNextUnlike, IsWildcard, IsStore};
+ghost use Rattle.attr_uses.specs.Tables.{StandsFor, Answers, AreTablesOf, IsTableOf, HasTwoOfOneName, HasTwoIds, AreNeeded, IsNextUnlike, IsWildcard, IsStore};
 
-use crate::UseAt;
 use crate::groups::Answer;
 use crate::own::uses_in;
 use crate::store::{KeptTable, Store};
+use crate::{NeededUse, UseAt};
 use std::alloc::{AllocError, Global};
 use xs_codes::Fault;
 use xs_components::{AttrGroupId, AttrUse, Components, TypeId, Wildcard};
@@ -90,7 +90,7 @@ impl AttrTables {
         self.use_numbered(table, name.number())
     }
 
-    /// The first use of the name of this number, as [`AttrTables::next_needed`] answers it.
+    /// The first use of the name of this number, as [`AttrTables::next_unlike`] answers it.
     pub fn use_numbered(&self, table: KeptTable, name: u32) -> Option<UseAt>
         requires store { IsStore self.now.store }
         requires table { (t : Tables) × (ids : List Bool) × (value : AttrUses) × StandsFor t ids self.now.store table value }
@@ -120,13 +120,17 @@ impl AttrTables {
         self.store.maps.has_two_ids(table.uses)
     }
 
-    /// The least number of a name, from a number on, whose first use is required or has a value constraint.
-    pub fn next_needed(&self, table: KeptTable, from: u32) -> Option<u32>
+    /// The numbers of the names whose first uses are required or have a value constraint, the least first, each with that use.
+    ///
+    /// # Errors
+    ///
+    /// `AllocError` is want of memory.
+    pub fn needed(&self, alloc: Global, table: KeptTable) -> Result<Vec<NeededUse>, AllocError>
         requires store { IsStore self.now.store }
         requires table { (t : Tables) × (ids : List Bool) × (value : AttrUses) × StandsFor t ids self.now.store table value }
-        ensures next { (t : Tables) (ids : List Bool) (value : AttrUses) → StandsFor t ids self.now.store table value → IsNext t value.uses from result }
+        ensures needed { (t : Tables) (ids : List Bool) (value : AttrUses) → StandsFor t ids self.now.store table value → IfOk result (λ needed. AreNeeded t value.uses 0 needed.items) }
     {
-        self.store.maps.next_needed(table.uses, from)
+        self.store.maps.needed(alloc, table.uses)
     }
 
     /// The next number of a name, from this one on, for which two tables may have different first uses: they have the same for

@@ -47,6 +47,7 @@ module _ (c : Compiled) (new : NameTable) where
     judging = h.judging;
     attributes = h.attributes;
     attribute_types = h.attribute_types;
+    known_uses = h.known_uses;
     groups = h.groups;
     classes_are = h.classes_are;
     first = h.first;

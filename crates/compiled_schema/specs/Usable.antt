@@ -11,6 +11,7 @@ use Rattle.element_declarations.specs.Groups.{AreGroups}
 use Rattle.elem_governing.specs.View.{IsView}
 use Rattle.elem_assess.specs.Source.{IsSource}
 use Rattle.attr_assess.specs.Schema.{IsAttrSet}
+use Rattle.attr_assess.specs.Known.{AreKnownUses}
 use Rattle.attr_assess.specs.Types.{IsTypeSet}
 use Rattle.attr_assess.specs.Added.{AreNamed as AreAttrsNamed}
 use Rattle.element_declarations.specs.Classes.{AreClassesOf}
@@ -63,6 +64,7 @@ pub record IsUsable (c : Compiled) : Type 0 where
   pub judging : IsSource c.parts c.contents c.types
   pub attributes : (ids : List Bool) × IsAttrSet c.parts c.named ids c.attr_uses
   pub attribute_types : IsTypeSet c.parts c.types
+  pub known_uses : AreKnownUses c.parts c.known_uses
   pub groups : AreGroups c.parts c.members
   pub classes_are : AreClassesOf c.parts c.classes.items
   pub first : NameTable

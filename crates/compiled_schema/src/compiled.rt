@@ -1,3 +1,4 @@
+use attr_assess::KnownUses;
 use attr_uses::AttrTables;
 use component_tables::{ComponentNames, ContentTypes, Declarations};
 use schema_models::Models;
@@ -25,6 +26,8 @@ pub struct Compiled {
     pub named: ComponentNames,
     /// The attribute uses and the attribute wildcards of its complex types and attribute groups (Structures 3.4.2, 3.6.2).
     pub attr_uses: AttrTables,
+    /// What the attribute uses in its components add to elements.
+    pub known_uses: KnownUses,
     /// The content types of its complex types (Structures 3.4.1).
     pub contents: ContentTypes,
     /// The automata of the content models of its complex types.

@@ -49,6 +49,19 @@ module _ (table : Table) (accepted : List (List ℕ)) (symbols : ℕ) where
         ];
       }
 
+  -- the start alone
+  module _ {X : Type 0} (f : X → List ℕ) (xs : List X) (alone : map f xs ≡ [] ∷ []) where
+    pub start_alone : AreStates table accepted symbols (map f xs)
+    start_alone = subst (λ (states : List (List ℕ)). AreStates table accepted symbols states) (sym alone) (record {
+      some = omega arith;
+      start = refl;
+      each = λ k a b. absurd (omega (arith, a, b));
+      apart = λ i j a b. absurd (omega (arith, a, b));
+    })
+
+    pub start_few : length xs ≡ 1
+    start_few = let l = length-map xs f in let e = ap length alone in omega arith
+
   pub states_numbered : (old new : List (List ℕ)) (set : List ℕ) (to : ℕ) → AreStates table accepted symbols old → (set ≢ [] → IsState table accepted symbols set) →
       IsNumbered old new set to → AreStates table accepted symbols new
   states_numbered old new set to are is h = elim h.grown [

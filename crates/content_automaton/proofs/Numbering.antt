@@ -63,17 +63,20 @@ where_then P Q TooManyStates p h = h p
 
 -- ---- the same over a set that keeps its order
 module _ {X : Type 0} (f : X → List ℕ) (xs : List X) (set : List ℕ) where
-  pub place_found : (i : ℕ) (x : X) → Some i ≡ position (λ y. pointwise (λ a b. a == b) set (f y)) xs → length xs ≤ 2048 → set_of (map f xs) 0 ≡ [] → set ≢ [] → IsNumbered (map f xs) (map f xs) set i
-  place_found i x e few start filled =
-      let p = position-Some (λ y. pointwise (λ a b. a == b) set (f y)) xs i x (sym e) in
-      let same : set ≡ f (get_or xs i x) = (slice_eq-Decides Decides-eqb set (f (get_or xs i x)) (pointwise (λ a b. a == b) set (f (get_or xs i x))) refl).0 p.1 in
-      let is : set_of (map f xs) i ≡ set = get_or-map f xs i x [] p.0 ∙ sym same in
-      let m : length (map f xs) ≡ length xs = length-map xs f in let l = p.0 in
+  pub numbered_same : (i : ℕ) → length xs ≤ 2048 → i < length xs → set_of (map f xs) i ≡ set → set_of (map f xs) 0 ≡ [] → set ≢ [] → IsNumbered (map f xs) (map f xs) set i
+  numbered_same i few l is start filled =
+      let m : length (map f xs) ≡ length xs = length-map xs f in
       record { grown = inl refl; is = is; number = record { not_start = not_first i is; live = inl (omega arith) }; few = omega arith }
     where
       not_first : (i : ℕ) → set_of (map f xs) i ≡ set → 0 < i
       not_first zero k = absurd (filled (sym k ∙ start))
       not_first (suc i) k = omega arith
+
+  pub place_found : (i : ℕ) (x : X) → Some i ≡ position (λ y. pointwise (λ a b. a == b) set (f y)) xs → length xs ≤ 2048 → set_of (map f xs) 0 ≡ [] → set ≢ [] → IsNumbered (map f xs) (map f xs) set i
+  place_found i x e few start filled =
+      let p = position-Some (λ y. pointwise (λ a b. a == b) set (f y)) xs i x (sym e) in
+      let same : set ≡ f (get_or xs i x) = (slice_eq-Decides Decides-eqb set (f (get_or xs i x)) (pointwise (λ a b. a == b) set (f (get_or xs i x))) refl).0 p.1 in
+      numbered_same i few p.0 (get_or-map f xs i x [] p.0 ∙ sym same) start filled
 
   any_set : (ys : List X) (k : ℕ) → k < length (map f ys) → set_of (map f ys) k ≡ set → list_any (λ y. pointwise (λ a b. a == b) set (f y)) ys ≡ true
   any_set [] k l e = absurd (omega arith)

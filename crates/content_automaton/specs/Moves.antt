@@ -1,5 +1,5 @@
 -- Sets of positions, and what comes after them.
-use Rattle.std.specs.Prelude.{◌≡◌, ◌≢◌, ℕ, ◌<◌, ◌⊎◌, ◌==◌, Bool, false, IsTrue, List, [], ◌∷◌, ◌++◌, Option, Some, None, slice_index, slice_index_or, length, Contains, if◌then◌else◌}
+use Rattle.std.specs.Prelude.{◌≡◌, ◌≢◌, ℕ, ◌<◌, ◌↔◌, ◌⊎◌, ◌==◌, Bool, false, IsTrue, List, [], ◌∷◌, ◌++◌, Option, Some, None, slice_index, slice_index_or, length, Contains, if◌then◌else◌}
 use Rattle.std.specs.List.{list_any}
 use Rattle.xs_positions.specs.Sets.{row}
 use Rattle.xs_positions.specs.Positions.{Table}
@@ -48,3 +48,7 @@ pub record ArePut (old new : List (List ℕ)) (symbols : List ℕ) (p : ℕ) : T
 -- the flag of a number is set
 abbrev pub Has : List Bool → ℕ → Type 0
 Has flags p = IsTrue (slice_index_or flags p false)
+
+-- the numbers of the list are those whose flag is set
+abbrev pub AreListed : List Bool → List ℕ → Type 0
+AreListed flags list = (p : ℕ) → Has flags p ↔ Contains list p

@@ -74,7 +74,7 @@ impl Machine {
             Ok(found) => found,
             Err(stop) => return Err(stop),
         };
-        let states = found.states.as_slice();
+        let states = found.states.sets.as_slice();
         let ends = ends_of(alloc, form, states)?;
         let terms = terms_of(alloc, form, states)?;
         let pair = two_terms_of_one(form, states);

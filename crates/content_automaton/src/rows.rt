@@ -99,7 +99,7 @@ pub(crate) fn accepted_of(alloc: Global, row: &[Entry]) -> Result<Listed<u32>, A
 }
 
 /// Brings the numbers in order, each of them once.
-fn sort_unique(list: &mut Vec<u32>)
+pub(crate) fn sort_unique(list: &mut Vec<u32>)
     ensures rises { IsStrictlyIncreasing list.new.items }
     ensures members { (p : ℕ) → Contains list.new.items p ↔ Contains list.old.items p }
 {

@@ -1,9 +1,10 @@
 //! Sets of positions, as rising lists.
 
-ghost use Rattle.std.specs.Prelude.{◌≡◌, ℕ, ◌<◌, ◌↔◌, ◌⊎◌, ◌^◌, [], map, length, filter, slice_index_or, All, Contains, IfOk, OnOk};
+ghost use Rattle.std.specs.Prelude.{◌≡◌, ℕ, ◌<◌, ◌↔◌, ◌⊎◌, [], map, length, filter, slice_index_or, All, Contains, IfOk, OnOk};
 ghost use Rattle.std.specs.List.Sorted.{IsStrictlyIncreasing};
-ghost use Rattle.content_automaton.specs.Moves.{Has, IsWithin, takes, Comes, ArePut};
+ghost use Rattle.content_automaton.specs.Moves.{AreListed, IsWithin, takes, Comes, ArePut};
 
+use crate::rows::sort_unique;
 use particle_models::Unrolled;
 use std::alloc::{AllocError, Global};
 use xs_lists::Listed;
@@ -20,41 +21,46 @@ pub(crate) fn coming(
     ensures members { IfOk result (λ next. (q : ℕ) → Contains next.items q ↔ Comes form.now.table starts set.now q) }
     ensures rises { IfOk result (λ next. IsStrictlyIncreasing next.items) }
 {
-    let count = form.count() as usize;
-    let mut flags = vec![in alloc; false; count]?;
+    let mut flags = vec![in alloc; false; form.count() as usize]?;
+    let mut next = Vec::new(alloc);
     if starts {
-        mark(&mut flags, form.first());
+        put_all(&mut flags, &mut next, form.first())?;
     }
     for p in set {
-        mark(&mut flags, form.follow(*p));
+        put_all(&mut flags, &mut next, form.follow(*p))?;
     }
-    marked(alloc, &flags)
+    sort_unique(&mut next);
+    Ok(next)
 }
 
-/// Sets the flags of these numbers.
-fn mark(flags: &mut Vec<bool>, more: &[u32])
-    requires { All (λ p. p < length flags.old.items) more.now }
-    ensures members { (p : ℕ) → Has flags.new.items p ↔ (Has flags.old.items p ⊎ Contains more.now p) }
-    ensures count { length flags.new.items ≡ length flags.old.items }
+/// Puts those of the numbers into the list that are not there. A flag says of each number whether it is.
+fn put_all(flags: &mut Vec<bool>, list: &mut Vec<u32>, more: &[u32]) -> Result<(), AllocError>
+    requires fits { All (λ p. p < length flags.old.items) more.now }
+    requires listed { AreListed flags.old.items list.old.items }
+    ensures members { OnOk result ((p : ℕ) → Contains list.new.items p ↔ (Contains list.old.items p ⊎ Contains more.now p)) }
+    ensures listed { OnOk result (AreListed flags.new.items list.new.items) }
+    ensures count { OnOk result (length flags.new.items ≡ length flags.old.items) }
 {
     for p in more {
-        flags[*p as usize] = true;
+        put_one(flags, list, *p)?;
     }
+    Ok(())
 }
 
-/// The numbers whose flag is set, rising.
-fn marked(alloc: Global, flags: &[bool]) -> Result<Vec<u32>, AllocError>
-    requires { length flags.now < 2 ^ 32 }
-    ensures members { IfOk result (λ numbers. (p : ℕ) → Contains numbers.items p ↔ Has flags.now p) }
-    ensures rises { IfOk result (λ numbers. IsStrictlyIncreasing numbers.items) }
+/// Puts the number into the list, if it is not there.
+fn put_one(flags: &mut Vec<bool>, list: &mut Vec<u32>, number: u32) -> Result<(), AllocError>
+    requires fits { number < length flags.old.items }
+    requires listed { AreListed flags.old.items list.old.items }
+    ensures members { OnOk result ((p : ℕ) → Contains list.new.items p ↔ (Contains list.old.items p ⊎ (p ≡ number))) }
+    ensures listed { OnOk result (AreListed flags.new.items list.new.items) }
+    ensures count { OnOk result (length flags.new.items ≡ length flags.old.items) }
 {
-    let mut numbers = Vec::new(alloc);
-    for (number, flag) in flags.iter().enumerate() {
-        if *flag {
-            numbers.push(number as u32)?;
-        }
+    if flags[number as usize] {
+        return Ok(());
     }
-    Ok(numbers)
+    flags[number as usize] = true;
+    list.push(number)?;
+    Ok(())
 }
 
 /// A set of no positions for each symbol.

@@ -6,10 +6,9 @@ ghost use Rattle.content_automaton.specs.Moves.{IsWithin};
 ghost use Rattle.content_automaton.specs.Built.{AreStates, AreTooMany, AreSteps};
 ghost use Rattle.content_automaton.specs.Outcome.{WhereTooMany};
 
-use crate::numbers::number_in;
+use crate::numbers::States;
 use crate::sets::{coming, no_sets, sort_out};
 use crate::stop::Stop;
-use indexmap::IndexSet;
 use particle_models::Unrolled;
 use std::alloc::Global;
 use xs_lists::Listed;
@@ -17,7 +16,7 @@ use xs_lists::Listed;
 /// States, each with its set of positions, and steps. The set of the start is left empty.
 #[derive(Drop)]
 pub(crate) struct Found {
-    pub(crate) states: IndexSet<Vec<u32>>,
+    pub(crate) states: States,
     pub(crate) cells: Vec<u16>,
 }
 
@@ -31,18 +30,17 @@ pub(crate) fn find_states(
     requires within { IsWithin form.now.table }
     requires rises { All IsStrictlyIncreasing accepted.now }
     requires below { All (All (λ n. n < symbols)) accepted.now }
-    ensures states { IfOk result (λ found. AreStates form.now.table accepted.now symbols (map (λ state. state.items) found.states.keys)) }
-    ensures few { IfOk result (λ found. length found.states.keys ≤ 2048) }
-    ensures steps { IfOk result (λ found. AreSteps form.now.table accepted.now symbols (map (λ state. state.items) found.states.keys) found.cells.items) }
-    ensures cells { IfOk result (λ found. length found.cells.items ≡ length found.states.keys * symbols) }
+    ensures states { IfOk result (λ found. AreStates form.now.table accepted.now symbols (map (λ state. state.items) found.states.sets.keys)) }
+    ensures few { IfOk result (λ found. length found.states.sets.keys ≤ 2048) }
+    ensures steps { IfOk result (λ found. AreSteps form.now.table accepted.now symbols (map (λ state. state.items) found.states.sets.keys) found.cells.items) }
+    ensures cells { IfOk result (λ found. length found.cells.items ≡ length found.states.sets.keys * symbols) }
     ensures too_many { IfErr result (λ stop. WhereTooMany stop (AreTooMany form.now.table accepted.now symbols)) }
 {
-    let mut states = IndexSet::new(alloc);
-    states.insert(Vec::new(alloc))?;
+    let mut states = States::of_start(alloc, form.count())?;
     let mut sets = no_sets(alloc, symbols)?;
     let mut cells = Vec::new(alloc);
     let mut state = 0;
-    while state < states.len() {
+    while state < states.sets.len() {
         add_row(
             alloc,
             form,
@@ -65,7 +63,7 @@ fn add_row(
     accepted: &[Listed<u32>],
     symbols: u32,
     sets: &mut Vec<Vec<u32>>,
-    states: &mut IndexSet<Vec<u32>>,
+    states: &mut States,
     cells: &mut Vec<u16>,
     state: usize,
 ) -> Result<(), Stop>
@@ -73,24 +71,24 @@ fn add_row(
     requires rises { All IsStrictlyIncreasing accepted.now }
     requires below { All (All (λ n. n < symbols)) accepted.now }
     requires sets { length sets.old.items ≡ symbols }
-    requires states { AreStates form.now.table accepted.now symbols (map (λ state. state.items) states.old.keys) }
-    requires few { length states.old.keys ≤ 2048 }
-    requires state { state < length states.old.keys }
-    requires steps { AreSteps form.now.table accepted.now symbols (map (λ state. state.items) states.old.keys) cells.old.items }
+    requires states { AreStates form.now.table accepted.now symbols (map (λ state. state.items) states.old.sets.keys) }
+    requires few { length states.old.sets.keys ≤ 2048 }
+    requires state { state < length states.old.sets.keys }
+    requires steps { AreSteps form.now.table accepted.now symbols (map (λ state. state.items) states.old.sets.keys) cells.old.items }
     requires cells { length cells.old.items ≡ state * symbols }
     ensures sets { OnOk result (length sets.new.items ≡ symbols) }
-    ensures states { OnOk result (AreStates form.now.table accepted.now symbols (map (λ state. state.items) states.new.keys)) }
-    ensures few { OnOk result (length states.new.keys ≤ 2048) }
-    ensures more { OnOk result (length states.old.keys ≤ length states.new.keys) }
-    ensures steps { OnOk result (AreSteps form.now.table accepted.now symbols (map (λ state. state.items) states.new.keys) cells.new.items) }
+    ensures states { OnOk result (AreStates form.now.table accepted.now symbols (map (λ state. state.items) states.new.sets.keys)) }
+    ensures few { OnOk result (length states.new.sets.keys ≤ 2048) }
+    ensures more { OnOk result (length states.old.sets.keys ≤ length states.new.sets.keys) }
+    ensures steps { OnOk result (AreSteps form.now.table accepted.now symbols (map (λ state. state.items) states.new.sets.keys) cells.new.items) }
     ensures cells { OnOk result (length cells.new.items ≡ (state + 1) * symbols) }
     ensures too_many { IfErr result (λ stop. WhereTooMany stop (AreTooMany form.now.table accepted.now symbols)) }
 {
-    let next = coming(alloc, form, &states.as_slice()[state], state == 0)?;
+    let next = coming(alloc, form, &states.sets.as_slice()[state], state == 0)?;
     sort_out(form, accepted, &next, sets)?;
     let all = sets.as_slice();
     for set in all {
-        match number_in(states, set) {
+        match states.number_in(set) {
             Ok(to) => cells.push(to)?,
             Err(stop) => return Err(stop),
         }

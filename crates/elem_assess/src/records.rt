@@ -2,6 +2,7 @@
 
 ghost use Rattle.std.specs.Prelude.{◌≡◌, List, Bool, IfOk};
 ghost use Rattle.attr_assess.specs.Added.{AreNamed};
+ghost use Rattle.attr_assess.specs.Known.{AreKnownUses};
 ghost use Rattle.attr_assess.specs.Types.{IsTypeSet};
 ghost use Rattle.attr_assess.specs.Schema.{IsAttrSet};
 ghost use Rattle.elem_governing.specs.View.{IsView};
@@ -11,7 +12,7 @@ ghost use Rattle.elem_assess.specs.Set.{IsWithin};
 
 use crate::judge_element;
 use assess_records::{AttrRecords, ElementRecord, ElementShape, InstanceAttribute, instance_text};
-use attr_assess::{AttrSchema, AttrValues, assess_attrs};
+use attr_assess::{AttrSchema, AttrValues, KnownUses, assess_attrs};
 use attr_uses::AttrTables;
 use component_tables::ContentTypes;
 use elem_codes::{ElementInput, ElementSource};
@@ -25,6 +26,7 @@ use std::alloc::{AllocError, Global};
 pub struct AssessSet<'a> {
     pub view: SchemaView<'a>,
     pub tables: &'a AttrTables,
+    pub known: &'a KnownUses,
     pub contents: &'a ContentTypes,
 }
 
@@ -74,6 +76,7 @@ pub fn local(
 ) -> Result<Judged, AllocError>
     requires view { IsView set.now.view.parts.now set.now.view.declarations.now set.now.view.named.now }
     requires attributes { (ids : List Bool) × IsAttrSet set.now.view.parts.now set.now.view.named.now ids set.now.tables.now }
+    requires known { AreKnownUses set.now.view.parts.now set.now.known.now }
     requires types { IsTypeSet set.now.view.parts.now types.old }
     requires source { IsSource set.now.view.parts.now set.now.contents.now types.old }
     requires named { AreNamed set.now.view.names.now set.now.view.parts.now }
@@ -87,6 +90,7 @@ pub fn local(
         parts: set.view.parts,
         tops: set.view.named,
         tables: set.tables,
+        known: set.known,
     };
     let attributes = assess_attrs(
         alloc,

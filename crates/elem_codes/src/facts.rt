@@ -4,7 +4,7 @@ ghost use Rattle.std.specs.Prelude.{◌≡◌, IfOk};
 ghost use Rattle.std.specs.Option.{option_copied};
 ghost use Rattle.elem_codes.specs.Facts as spec;
 
-use assess_records::{AttrRecord, ChildCounts, ElementShape};
+use assess_records::{AttrRecord, ChildCounts, ElementShape, Shared};
 use component_tables::ContentTypes;
 use elem_governing::{Governing, Mode, XsiType};
 use std::alloc::{AllocError, Global};
@@ -29,7 +29,7 @@ pub struct ElementInput<'a> {
     /// What it has to show.
     pub shape: &'a ElementShape,
     /// The records of its attributes.
-    pub attrs: &'a [AttrRecord],
+    pub attrs: &'a [Shared<AttrRecord>],
     /// The names of the required attributes that it lacks.
     pub missing: &'a [NameId],
 }

@@ -5,7 +5,7 @@ ghost use Rattle.std.specs.List.{list_any, list_all};
 ghost use Rattle.assess_records.specs.declared.record.AttrRecord.{AttrRecord};
 ghost use Rattle.elem_codes.specs.Records as spec;
 
-use assess_records::{Attempted, AttrRecord, ChildCounts, Codes, Validity};
+use assess_records::{Attempted, AttrRecord, ChildCounts, Codes, Shared, Validity};
 
 fn is_invalid(validity: Validity) -> bool
     ensures { result ≡ spec.is_invalid validity }
@@ -37,34 +37,34 @@ fn is_untried(attempted: Attempted) -> bool
     }
 }
 
-fn is_any_invalid(attrs: &[AttrRecord]) -> bool
+fn is_any_invalid(attrs: &[Shared<AttrRecord>]) -> bool
     ensures { result ≡ list_any (λ (a : AttrRecord). spec.is_invalid a.validity) attrs.now }
 {
-    attrs.iter().any(|a| is_invalid(a.validity))
+    attrs.iter().any(|a| is_invalid(a.get().validity))
 }
 
 /// Whether an attribute or a child element is invalid.
-pub(crate) fn any_invalid(attrs: &[AttrRecord], counts: &ChildCounts) -> bool
+pub(crate) fn any_invalid(attrs: &[Shared<AttrRecord>], counts: &ChildCounts) -> bool
     ensures { result ≡ spec.any_invalid attrs.now counts.now }
 {
     let invalid = is_any_invalid(attrs);
     invalid || counts.invalid != 0
 }
 
-fn are_full(attrs: &[AttrRecord]) -> bool
+fn are_full(attrs: &[Shared<AttrRecord>]) -> bool
     ensures { result ≡ list_all (λ (a : AttrRecord). spec.is_full a.attempted) attrs.now }
 {
-    attrs.iter().all(|a| is_full(a.attempted))
+    attrs.iter().all(|a| is_full(a.get().attempted))
 }
 
-fn are_untried(attrs: &[AttrRecord]) -> bool
+fn are_untried(attrs: &[Shared<AttrRecord>]) -> bool
     ensures { result ≡ list_all (λ (a : AttrRecord). spec.is_untried a.attempted) attrs.now }
 {
-    attrs.iter().all(|a| is_untried(a.attempted))
+    attrs.iter().all(|a| is_untried(a.get().attempted))
 }
 
 // Whether all attributes and child elements were assessed in full.
-fn all_full(attrs: &[AttrRecord], counts: &ChildCounts) -> bool
+fn all_full(attrs: &[Shared<AttrRecord>], counts: &ChildCounts) -> bool
     ensures { result ≡ spec.all_full attrs.now counts.now }
 {
     let full = are_full(attrs);
@@ -72,7 +72,7 @@ fn all_full(attrs: &[AttrRecord], counts: &ChildCounts) -> bool
 }
 
 // Whether none of them was assessed at all.
-fn all_untried(attrs: &[AttrRecord], counts: &ChildCounts) -> bool
+fn all_untried(attrs: &[Shared<AttrRecord>], counts: &ChildCounts) -> bool
     ensures { result ≡ spec.all_untried attrs.now counts.now }
 {
     let untried = are_untried(attrs);
@@ -97,7 +97,11 @@ pub(crate) fn validity_of(codes: &Codes, strictly: bool, below: bool) -> Validit
 }
 
 /// [validation attempted], by whether the element is strictly assessed, and by what is below it.
-pub(crate) fn attempted_of(strictly: bool, attrs: &[AttrRecord], counts: &ChildCounts) -> Attempted
+pub(crate) fn attempted_of(
+    strictly: bool,
+    attrs: &[Shared<AttrRecord>],
+    counts: &ChildCounts,
+) -> Attempted
     ensures { result ≡ spec.attempted_of strictly attrs.now counts.now }
 {
     if strictly {

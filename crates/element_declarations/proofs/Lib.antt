@@ -6,4 +6,6 @@ pub mod StandLaws
 pub mod OrderLaws
 pub mod GroupLaws
 pub mod HeadLaws
+pub mod NearestLaws
+pub mod JoinLaws
 pub mod NamedLaws

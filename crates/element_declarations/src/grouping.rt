@@ -1,4 +1,4 @@
-ghost use Rattle.std.specs.Prelude.{◌≡◌, ◌<◌, ◌∷◌, ◌++◌, [], ℕ, length, map, slice_get, slice_set, IfOk, IfSome, OnOk, Some};
+ghost use Rattle.std.specs.Prelude.{◌≡◌, ◌<◌, ◌∷◌, ◌++◌, [], ℕ, length, map, slice_get, slice_set, IfOk, IfSome, OnOk, Some, true};
 ghost use Rattle.xs_components.specs.Tables.{Tables};
 ghost use Rattle.xs_components.specs.declared.element.ElementDecl.{ElementDecl};
 ghost use Rattle.xs_components.specs.Heads.{names_of};
@@ -7,9 +7,10 @@ ghost use Rattle.component_references.specs.Ranked.{IsRanked};
 ghost use Rattle.component_tables.specs.Types.{AreDeclarationsOf};
 ghost use Rattle.type_derivation.specs.Within.{AreSimple};
 ghost use Rattle.element_declarations.specs.Groups as spec;
-ghost use Rattle.element_declarations.specs.inside.Steps.{AreMarked, IsOffered, IsJoined, IsGroupSoFar};
+ghost use Rattle.element_declarations.specs.inside.Steps.{IsOffered, IsJoined, IsGroupSoFar};
+ghost use Rattle.element_declarations.specs.inside.Nearest.{AreNearest};
 
-use crate::named::{is_marked, named_marks};
+use crate::named::{nearest_at, nearest_heads};
 use crate::order::in_order;
 use crate::standing::may_stand;
 use component_tables::Declarations;
@@ -45,12 +46,11 @@ fn put_name(lists: &mut Vec<NameIdList>, element: ElementId, name: NameId) -> Re
     lists[element.number() as usize].push(name)
 }
 
-// Puts an element to the group of one head, if that is marked and the element may stand for it.
+// Puts an element to the group of one head, which a content model names, if the element may stand for it.
 fn offer(
     alloc: Global,
     parts: &Components,
     declarations: &Declarations,
-    marks: &[bool],
     element: ElementId,
     head: ElementId,
     lists: &mut Vec<NameIdList>,
@@ -59,27 +59,24 @@ fn offer(
     requires simple { AreSimple parts.now }
     requires types { (n : ℕ) (part : ElementDecl) → slice_get parts.now.elements.parts n ≡ Some part → IfSome part.of (IsType parts.now) }
     requires declarations { AreDeclarationsOf parts.now declarations.now }
-    requires marks { AreMarked parts.now marks.now }
     requires element { element < length parts.now.elements.parts }
     requires head { head < length parts.now.elements.parts }
+    requires named { spec.is_named parts.now head ≡ true }
     requires count { length lists.old.items ≡ length parts.now.elements.parts }
     ensures { OnOk result (IsOffered parts.now element head lists.old.items lists.new.items) }
 {
-    if !is_marked(marks, head) {
-        return Ok(());
-    }
     if may_stand(alloc, parts, declarations, element, head)? {
         put_name(lists, head, parts.element(element).name)?;
     }
     Ok(())
 }
 
-// Puts an element to the groups of which it is a member, of those whose heads are marked.
+// Puts an element to the groups of which it is a member, of those whose heads content models name, from each to the nearest above.
 fn join(
     alloc: Global,
     parts: &Components,
     declarations: &Declarations,
-    marks: &[bool],
+    nearest: &[Option<ElementId>],
     element: ElementId,
     lists: &mut Vec<NameIdList>,
 ) -> Result<(), AllocError>
@@ -87,15 +84,15 @@ fn join(
     requires simple { AreSimple parts.now }
     requires types { (n : ℕ) (part : ElementDecl) → slice_get parts.now.elements.parts n ≡ Some part → IfSome part.of (IsType parts.now) }
     requires declarations { AreDeclarationsOf parts.now declarations.now }
-    requires marks { AreMarked parts.now marks.now }
+    requires nearest { AreNearest parts.now nearest.now }
     requires there { element < length parts.now.elements.parts }
     requires count { length lists.old.items ≡ length parts.now.elements.parts }
     ensures { OnOk result (IsJoined parts.now element lists.old.items lists.new.items) }
 {
-    let mut above = parts.element(element).head;
+    let mut above = nearest_at(nearest, element);
     'up: while let Some(head) = above {
-        offer(alloc, parts, declarations, marks, element, head, lists)?;
-        above = parts.element(head).head;
+        offer(alloc, parts, declarations, element, head, lists)?;
+        above = nearest_at(nearest, head);
     }
     Ok(())
 }
@@ -113,10 +110,10 @@ fn member_names(
     ensures { IfOk result (λ lists. spec.AreGroups parts.now lists.items) }
 {
     let order = in_order(alloc, parts)?;
-    let marks = named_marks(alloc, parts)?;
+    let nearest = nearest_heads(alloc, parts)?;
     let mut lists = own_names(alloc, parts)?;
     for element in &order {
-        join(alloc, parts, declarations, &marks, *element, &mut lists)?;
+        join(alloc, parts, declarations, &nearest, *element, &mut lists)?;
     }
     Ok(lists)
 }

@@ -6,3 +6,4 @@ pub mod Members
 pub mod Reading
 pub mod Source
 pub mod Trying
+pub mod UnionMembers

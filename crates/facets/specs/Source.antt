@@ -9,7 +9,7 @@ use Rattle.facets.specs.declared.atomic.Accepted.{Accepted}
 use Rattle.facets.specs.declared.facets.Facets.{Facets}
 use Rattle.facets.specs.declared.members.Choices.{Choices}
 use Rattle.facets.specs.declared.members.Literals.TheVariants.{OfBuiltin, OfList}
-use Rattle.facets.specs.declared.members.Members.{Members}
+use Rattle.facets.specs.UnionMembers.{Members}
 use Rattle.facets.specs.declared.members.Source.{Source}
 use Rattle.facets.specs.declared.members.Source.TheVariants as sources
 use Rattle.facets.specs.Atomic.{IsJudged}

@@ -15,7 +15,7 @@ use Rattle.facets.specs.declared.members.Choices.{Choices}
 use Rattle.facets.specs.declared.members.Literals.{Literals}
 use Rattle.facets.specs.declared.members.Literals.TheVariants.{OfBuiltin, OfList}
 use Rattle.facets.specs.declared.members.Member.{Member}
-use Rattle.facets.specs.declared.members.Members.{Members}
+use Rattle.facets.specs.UnionMembers.{Members}
 use Rattle.facets.specs.declared.trying.Turn.{Turn}
 use Rattle.facets.specs.declared.trying.Turn.TheVariants.{Ends, From}
 use Rattle.facets.specs.Atomic.{IsAtomicRead, IsJudged, way_of}

@@ -60,7 +60,7 @@ impl Facets {
         ensures { IfOk result (λ facets. facets ≡ spec.union_of members) }
     {
         Ok(Facets {
-            source: Source::Union(Shared::new(alloc, members)?),
+            source: Source::Union(members.finished(alloc)?),
             list: FacetList::new(alloc),
         })
     }
@@ -163,7 +163,7 @@ fn read_source(
 {
     match source {
         Source::Literals(literals) => read_literal(alloc, literals, list, text, scope),
-        Source::Union(members) => match read_union(alloc, members.get(), text, scope)? {
+        Source::Union(members) => match read_union(alloc, members, text, scope)? {
             Ok(accepted) => judged_value(alloc, list, accepted.value, accepted.text),
             Err(code) => Ok(Err(code)),
         },

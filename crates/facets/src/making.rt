@@ -1,13 +1,14 @@
 //! Lists of a type, and unions of types.
 ghost use Rattle.std.specs.Prelude.{◌≡◌, [], IfOk};
 ghost use Rattle.facets.specs.Making as spec;
+ghost use Rattle.facets.specs.declared.members.Source.TheVariants as sources;
 
 use crate::Facets;
 use crate::members::{
-    Choices, Gate, Literals, Member, Members, Plain, Source, copied_gates, copied_members,
-    same_literals,
+    Choices, Gate, Literals, Member, Members, Plain, Source, Union, gates_of, same_literals,
 };
 use facet_checks::{FacetList, Handling, Shared};
+use shared_lists::SharedTree;
 use simple_values::item_type;
 use std::alloc::{AllocError, Global};
 use xs_codes::Builtin;
@@ -20,8 +21,8 @@ impl Members {
         ensures { result ≡ spec.no_members }
     {
         Members {
-            members: Listed::new(alloc),
-            gates: Listed::new(alloc),
+            front: SharedTree::new(alloc),
+            run: Listed::new(alloc),
         }
     }
 
@@ -30,39 +31,55 @@ impl Members {
         ensures { IfOk result (λ all. all ≡ spec.with_member self member.now) }
     {
         match &member.source {
-            Source::Literals(literals) => {
-                let mut members = self.members;
-                members.push(Member {
-                    literals: same_literals(literals)?,
-                    list: shared_list(alloc, &member.list)?,
-                })?;
-                Ok(Members {
-                    members,
-                    gates: self.gates,
-                })
-            }
-            Source::Union(others) => with_union(alloc, self, others.get(), &member.list),
+            Source::Literals(literals) => with_one(alloc, self, literals, &member.list),
+            Source::Union(others) => with_union(alloc, self, others, &member.list),
         }
+    }
+
+    /// The union of these members.
+    pub(crate) fn finished(self, alloc: Global) -> Result<Union, AllocError>
+        ensures { IfOk result (λ union_of. union_of ≡ self) }
+    {
+        let Members { front, run } = self;
+        let run = SharedTree::run(alloc, run.into_vec())?;
+        Ok(Union {
+            parts: front.joined(&run)?,
+        })
     }
 }
 
+#[tactic(auto, using(crate::proofs::Laying::one_with))]
+fn with_one(
+    alloc: Global,
+    all: Members,
+    literals: &Literals,
+    list: &FacetList,
+) -> Result<Members, AllocError>
+    ensures { IfOk result (λ made. made ≡ spec.with_source all (sources.Literals literals.now) list.now) }
+{
+    let Members { front, mut run } = all;
+    run.push(Member {
+        literals: same_literals(literals)?,
+        list: shared_list(alloc, list)?,
+    })?;
+    Ok(Members { front, run })
+}
+
+#[tactic(auto, using(crate::proofs::Laying::union_with))]
 fn with_union(
     alloc: Global,
     all: Members,
-    others: &Members,
+    others: &Union,
     list: &FacetList,
 ) -> Result<Members, AllocError>
     ensures { IfOk result (λ made. made ≡ spec.with_union all others.now list.now) }
 {
-    let from = all.members.len();
-    let members = copied_members(all.members, others.members.as_slice())?;
-    let mut gates = copied_gates(all.gates, from, others.gates.as_slice())?;
-    gates.push(Gate {
-        from,
-        to: members.len(),
-        list: shared_list(alloc, list)?,
-    })?;
-    Ok(Members { members, gates })
+    let front = all.finished(alloc)?;
+    let group = others.parts.grouped(shared_list(alloc, list)?)?;
+    Ok(Members {
+        front: front.parts.joined(&group)?,
+        run: Listed::new(alloc),
+    })
 }
 
 // These facets, to be shared by the unions and the lists that are made from the type.
@@ -91,7 +108,7 @@ pub(crate) fn choices_of(alloc: Global, item: &Facets) -> Result<Option<Choices>
 {
     match &item.source {
         Source::Literals(literals) => choice_of_one(alloc, literals, &item.list),
-        Source::Union(members) => choice_of_union(alloc, members.get(), &item.list),
+        Source::Union(members) => choice_of_union(alloc, members, &item.list),
     }
 }
 
@@ -116,17 +133,18 @@ fn choice_of_one(
     }))
 }
 
+#[tactic(auto, using(crate::proofs::Laying::gates_stay))]
 fn choice_of_union(
     alloc: Global,
-    members: &Members,
+    members: &Union,
     list: &FacetList,
 ) -> Result<Option<Choices>, AllocError>
     ensures { IfOk result (λ choices. choices ≡ spec.choice_of_union members.now list.now) }
 {
-    let Some(plains) = plains_of(alloc, members.members.as_slice())? else {
+    let Some(plains) = plains_of(alloc, members)? else {
         return Ok(None);
     };
-    let mut gates = copied_gates(Listed::new(alloc), 0, members.gates.as_slice())?;
+    let mut gates = gates_of(alloc, members)?;
     gates.push(Gate {
         from: 0,
         to: plains.len(),
@@ -139,11 +157,12 @@ fn choice_of_union(
 }
 
 // The members as types that are derived from built-in atomic ones, if they all are.
-fn plains_of(alloc: Global, members: &[Member]) -> Result<Option<Listed<Plain>>, AllocError>
-    ensures { IfOk result (λ plains. plains ≡ spec.plains_behind [] members.now) }
+fn plains_of(alloc: Global, union_of: &Union) -> Result<Option<Listed<Plain>>, AllocError>
+    ensures { IfOk result (λ plains. plains ≡ spec.plains_behind [] union_of.now.members) }
 {
     let mut plains = Listed::new(alloc);
-    for member in members {
+    let mut members = union_of.parts.leaves()?;
+    'members: while let Some(member) = members.next()? {
         let Some(kind) = atomic_kind(&member.literals) else {
             return Ok(None);
         };

@@ -1,10 +1,12 @@
 //! What the literals of a type are.
-ghost use Rattle.std.specs.Prelude.{◌≡◌, ◌++◌, IfOk};
+ghost use Rattle.std.specs.Prelude.{◌≡◌, IfOk};
 ghost use Rattle.facets.specs.Members as spec;
 
 use facet_checks::{FacetList, Shared};
 use facet_rules::{Family, family_of};
-use std::alloc::AllocError;
+use shared_lists::SharedTree;
+use std::alloc::{AllocError, Global};
+use std::marker::Model;
 use xs_codes::Builtin;
 use xs_lists::Listed;
 
@@ -47,19 +49,57 @@ pub struct Member {
     pub(crate) list: Shared<FacetList>,
 }
 
-/// The members of a union, those of its unions among them (Structures 3.14.1): each tries a text in turn, and the first that
-/// accepts it decides.
+/// The members of a union that is made, those of its unions among them (Structures 3.14.1): each tries a text in turn, and the
+/// first that accepts it decides. Contracts see them as one list, with a gate for each union among them.
 #[derive(Drop)]
 pub struct Members {
-    pub(crate) members: Listed<Member>,
-    pub(crate) gates: Listed<Gate>,
+    // Those up to the last union among them, and those behind it.
+    pub(crate) front: UnionParts,
+    pub(crate) run: Listed<Member>,
+}
+
+impl Model for Members {
+    ghost use Rattle.facets.specs.UnionMembers.{Members, members_of};
+    ghost use Rattle.shared_lists.specs.Trees.{joined, run as in_a_run};
+
+    ghost Value = { Members };
+
+    ghost view = { λ all. members_of (joined all.front (in_a_run all.run)) };
+}
+
+/// A union, seen as its members. A union that is a member is shared with its own type.
+#[derive(Drop)]
+pub struct Union {
+    pub(crate) parts: UnionParts,
+}
+
+/// The members of a union, in groups by the unions among them, with the facets of these.
+pub(crate) type UnionParts = SharedTree<Member, Shared<FacetList>>;
+
+impl Model for Union {
+    ghost use Rattle.facets.specs.UnionMembers.{Members, members_of};
+
+    ghost Value = { Members };
+
+    ghost view = { λ union_of. members_of union_of.parts };
+}
+
+impl Union {
+    /// The same union, which is shared.
+    pub(crate) fn try_clone(&self) -> Result<Union, AllocError>
+        ensures { IfOk result (λ copy. copy ≡ self.now) }
+    {
+        Ok(Union {
+            parts: self.parts.try_clone()?,
+        })
+    }
 }
 
 /// What the literals of a type are.
 #[derive(Drop)]
 pub enum Source {
     Literals(Literals),
-    Union(Shared<Members>),
+    Union(Union),
 }
 
 impl Source {
@@ -105,47 +145,18 @@ pub(crate) fn same_literals(literals: &Literals) -> Result<Literals, AllocError>
     }
 }
 
-/// These members, behind others; what they are made of is shared.
-pub(crate) fn copied_members(
-    front: Listed<Member>,
-    members: &[Member],
-) -> Result<Listed<Member>, AllocError>
-    ensures { IfOk result (λ all. all ≡ front ++ members.now) }
+/// The gates of a union; their facets are shared.
+pub(crate) fn gates_of(alloc: Global, union_of: &Union) -> Result<Listed<Gate>, AllocError>
+    ensures { IfOk result (λ gates. gates ≡ union_of.now.gates) }
 {
-    let mut all = front;
-    for member in members {
-        all.push(Member {
-            literals: same_literals(&member.literals)?,
-            list: member.list.try_clone()?,
+    let mut gates = Listed::new(alloc);
+    let mut groups = union_of.parts.groups()?;
+    'groups: while let Some(group) = groups.next()? {
+        gates.push(Gate {
+            from: group.from,
+            to: group.to,
+            list: group.label.try_clone()?,
         })?;
     }
-    Ok(all)
-}
-
-/// These gates, moved on by so many members, behind others; their facets are shared.
-pub(crate) fn copied_gates(
-    front: Listed<Gate>,
-    by: usize,
-    gates: &[Gate],
-) -> Result<Listed<Gate>, AllocError>
-    ensures { IfOk result (λ all. all ≡ front ++ spec.moved_on by gates.now) }
-{
-    let mut all = front;
-    for gate in gates {
-        all.push(moved_gate(by, gate)?)?;
-    }
-    Ok(all)
-}
-
-fn moved_gate(by: usize, gate: &Gate) -> Result<Gate, AllocError>
-    ensures { IfOk result (λ moved. moved ≡ spec.moved_gate by gate.now) }
-{
-    let (Some(from), Some(to)) = (by.checked_add(gate.from), by.checked_add(gate.to)) else {
-        return Err(AllocError);
-    };
-    Ok(Gate {
-        from,
-        to,
-        list: gate.list.try_clone()?,
-    })
+    Ok(gates)
 }

@@ -1,10 +1,10 @@
 //! Literals of lists and of unions.
-ghost use Rattle.std.specs.Prelude.{◌≡◌, [], ◌++◌, IfOk, OnOk};
+ghost use Rattle.std.specs.Prelude.{◌≡◌, ◌+◌, [], ◌++◌, IfOk, OnOk};
 ghost use Rattle.facets.specs.Trying as spec;
 
 use crate::Accepted;
 use crate::atomic::{MOST_ITEMS, judged_value, read_atomic, way_of};
-use crate::members::{Choices, Gate, Literals, Member, Members, Plain};
+use crate::members::{Choices, Gate, Literals, Member, Plain, Union, gates_of};
 use facet_checks::FacetList;
 use simple_values::{Atoms, TypedAtom, Value};
 use std::alloc::{AllocError, Global};
@@ -18,37 +18,57 @@ pub(crate) type Outcome = Result<Accepted, Code>;
 /// the trial (Structures 3.14.4).
 pub(crate) fn read_union(
     alloc: Global,
-    union_of: &Members,
+    union_of: &Union,
     text: &str,
     scope: &Scope,
 ) -> Result<Outcome, AllocError>
     ensures { IfOk result (λ outcome. spec.IsUnionRead union_of.now scope.now text.now outcome) }
 {
-    let members = union_of.members.as_slice();
-    try_members(alloc, members, union_of.gates.as_slice(), text, scope)
-}
-
-fn try_members(
-    alloc: Global,
-    members: &[Member],
-    gates: &[Gate],
-    text: &str,
-    scope: &Scope,
-) -> Result<Outcome, AllocError>
-    ensures { IfOk result (λ outcome. spec.AreMembersTried gates.now scope.now text.now 0 0 members.now outcome) }
-{
+    let mut members = union_of.parts.leaves()?;
+    let mut index = 0;
     let mut start = 0;
-    for index in 0..members.len() {
-        if index < start {
+    'members: while let Some(member) = members.next()? {
+        let place = index;
+        index = one_more(place)?;
+        if place < start {
             continue;
         }
-        let read = read_member(alloc, &members[index], text, scope)?;
-        match turn_of(alloc, read, gates, index, start)? {
+        let read = read_member(alloc, member, text, scope)?;
+        match turn_among(alloc, read, union_of, place, start)? {
             Turn::Ends(outcome) => return Ok(outcome),
             Turn::From(next) => start = next,
         }
     }
     Ok(Err(Code::CvcDatatypeValid1))
+}
+
+// Members are counted as far as memory goes.
+fn one_more(index: usize) -> Result<usize, AllocError>
+    ensures { IfOk result (λ more. more ≡ index + 1) }
+{
+    match index.checked_add(1) {
+        Some(more) => Ok(more),
+        None => Err(AllocError),
+    }
+}
+
+// What comes of the answer of a member of a union.
+fn turn_among(
+    alloc: Global,
+    read: Outcome,
+    union_of: &Union,
+    index: usize,
+    start: usize,
+) -> Result<Turn, AllocError>
+    ensures { IfOk result (λ turn. spec.IsTurn union_of.now.gates index start read turn) }
+{
+    match read {
+        Ok(accepted) => {
+            let gates = gates_of(alloc, union_of)?;
+            turn_of(alloc, Ok(accepted), gates.as_slice(), index, start)
+        }
+        Err(code) => turn_of(alloc, Err(code), &[], index, start),
+    }
 }
 
 fn try_plains(

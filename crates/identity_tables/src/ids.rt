@@ -7,6 +7,7 @@ ghost use Rattle.identity_tables.specs.Table.{IsTableOf, IsGrown};
 ghost use Rattle.identity_tables.specs.Counted.{HasCounted};
 
 use crate::{IdRole, IdTable, role_of};
+use shared_lists::Shared;
 use simple_values::{Atom, TypedAtom, Value};
 use std::alloc::{AllocError, Global};
 use std::marker::Model;
@@ -62,11 +63,15 @@ impl KeptIds {
     /// # Errors
     ///
     /// As those of `add_value`.
-    pub fn add_values(&mut self, bearer: u32, values: &[Option<Value>]) -> Result<(), AllocError>
+    pub fn add_values(
+        &mut self,
+        bearer: u32,
+        values: &[Shared<Option<Value>>],
+    ) -> Result<(), AllocError>
         ensures { OnOk result ((atoms : List BorneAtom) → IsTableOf self.old atoms → IsTableOf self.new (atoms ++ spec.borne_in_all bearer values.now)) }
     {
         for value in values {
-            self.add_value(bearer, value)?;
+            self.add_value(bearer, value.get())?;
         }
         Ok(())
     }
@@ -83,12 +88,12 @@ impl KeptIds {
     }
 
     /// Drops the IDs and references in the values of an element's attributes, which were added for it. It takes no memory.
-    pub fn drop_values(&mut self, bearer: u32, values: &[Option<Value>])
+    pub fn drop_values(&mut self, bearer: u32, values: &[Shared<Option<Value>>])
         requires { (atoms : List BorneAtom) × IsTableOf self.old (spec.borne_in_all bearer values.now ++ atoms) }
         ensures { (atoms : List BorneAtom) → IsTableOf self.old (spec.borne_in_all bearer values.now ++ atoms) → IsTableOf self.new atoms }
     {
         for value in values {
-            self.drop_value(bearer, value);
+            self.drop_value(bearer, value.get());
         }
     }
 

@@ -7,6 +7,7 @@ ghost use Rattle.identity_tables.specs.Table.{IsTableOf, IsGrown};
 
 use crate::IdTable;
 use crate::role::{IdRole, role_of};
+use shared_lists::Shared;
 use simple_values::{Atom, TypedAtom, Value};
 use std::alloc::{AllocError, Global};
 use std::marker::Model;
@@ -62,11 +63,15 @@ impl DocumentIds {
     /// # Errors
     ///
     /// As those of `add_value`.
-    pub fn add_values(&mut self, bearer: u32, values: &[Option<Value>]) -> Result<(), AllocError>
+    pub fn add_values(
+        &mut self,
+        bearer: u32,
+        values: &[Shared<Option<Value>>],
+    ) -> Result<(), AllocError>
         ensures { OnOk result ((atoms : List BorneAtom) → IsTableOf self.old atoms → IsTableOf self.new (atoms ++ spec.borne_in_all bearer values.now)) }
     {
         for value in values {
-            self.add_value(bearer, value)?;
+            self.add_value(bearer, value.get())?;
         }
         Ok(())
     }

@@ -12,6 +12,7 @@ mod limits;
 mod line;
 mod listing;
 mod locations;
+mod names;
 mod past;
 
 pub use escape::unescape;

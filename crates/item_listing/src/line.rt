@@ -5,6 +5,7 @@ ghost use Rattle.item_listing.specs.Items.{Gives};
 
 use crate::escape::{after_first_byte, unescape};
 use crate::locations::read_locations;
+use crate::names::RecentNames;
 use crate::{Item, Reason};
 use std::alloc::{AllocError, Global};
 use std::str;
@@ -25,13 +26,13 @@ impl From<AllocError> for LineError {
     }
 }
 
-fn read_name(alloc: Global, name: &str) -> Result<Text, LineError>
+fn read_name(names: &mut RecentNames, name: &str) -> Result<Text, LineError>
     ensures { Gives result (listed.name_of name.now) }
 {
     if name.is_empty() {
         return Err(LineError::Refused(Reason::NoName));
     }
-    Ok(Text::new(alloc, name)?)
+    Ok(names.text(name)?)
 }
 
 fn read_text(alloc: Global, text: &str) -> Result<Text, LineError>
@@ -55,12 +56,12 @@ fn split_at_space(text: &str) -> (&str, &str)
 }
 
 #[tactic(auto, unfolding(crate::specs::Items::attribute))]
-fn read_attribute(alloc: Global, tag_open: bool, rest: &str) -> Result<Item, LineError>
+fn read_attribute(names: &mut RecentNames, tag_open: bool, rest: &str) -> Result<Item, LineError>
     ensures { Gives result (listed.attribute tag_open rest.now) }
 {
     let (name, value) = split_at_space(rest);
-    let name = read_name(alloc, name)?;
-    let value = read_text(alloc, value)?;
+    let name = read_name(names, name)?;
+    let value = read_text(names.alloc(), value)?;
     if tag_open {
         Ok(Item::Attr(name, value))
     } else {
@@ -87,7 +88,7 @@ fn read_word(alloc: Global, line: &str) -> Result<Item, LineError>
 
 #[tactic(auto, unfolding(crate::specs::Items::by_first))]
 fn read_by_first(
-    alloc: Global,
+    names: &mut RecentNames,
     tag_open: bool,
     line: &str,
     first: u8,
@@ -97,23 +98,23 @@ fn read_by_first(
     ensures { Gives result (listed.by_first tag_open line.now first rest.now) }
 {
     match first {
-        b'(' => Ok(Item::Start(read_name(alloc, rest)?)),
-        b'A' => read_attribute(alloc, tag_open, rest),
-        b'-' => Ok(Item::Chars(read_text(alloc, rest)?)),
-        b')' => Ok(Item::Close(read_name(alloc, rest)?)),
+        b'(' => Ok(Item::Start(read_name(names, rest)?)),
+        b'A' => read_attribute(names, tag_open, rest),
+        b'-' => Ok(Item::Chars(read_text(names.alloc(), rest)?)),
+        b')' => Ok(Item::Close(read_name(names, rest)?)),
         b'?' => Ok(Item::Instruction),
         b'.' if rest.is_empty() => Ok(Item::Dot),
-        b'a'..=b'z' => read_word(alloc, line),
+        b'a'..=b'z' => read_word(names.alloc(), line),
         _ => Err(LineError::Refused(Reason::BadStart)),
     }
 }
 
-fn read_started(alloc: Global, tag_open: bool, line: &str) -> Result<Item, LineError>
+fn read_started(names: &mut RecentNames, tag_open: bool, line: &str) -> Result<Item, LineError>
     ensures { Gives result (listed.started tag_open line.now) }
 {
     match line.as_bytes().first() {
         Some(first) if *first < 128 => read_by_first(
-            alloc,
+            names,
             tag_open,
             line,
             *first,
@@ -125,11 +126,11 @@ fn read_started(alloc: Global, tag_open: bool, line: &str) -> Result<Item, LineE
 }
 
 /// What a line says, by its text.
-pub fn read_line(alloc: Global, tag_open: bool, line: &[u8]) -> Result<Item, LineError>
+pub fn read_line(names: &mut RecentNames, tag_open: bool, line: &[u8]) -> Result<Item, LineError>
     ensures { Gives result (listed.item tag_open line.now) }
 {
     match str::from_utf8(line) {
-        Ok(text) => read_started(alloc, tag_open, text),
+        Ok(text) => read_started(names, tag_open, text),
         Err(_) => Err(LineError::Refused(Reason::NotUtf8)),
     }
 }
@@ -147,7 +148,8 @@ pub fn read_item(
 ) -> Result<Result<Item, Reason>, AllocError>
     ensures { IfOk result (λ read. read ≡ listed.item tag_open line.now) }
 {
-    match read_line(alloc, tag_open, line) {
+    let mut names = RecentNames::new(alloc);
+    match read_line(&mut names, tag_open, line) {
         Ok(item) => Ok(Ok(item)),
         Err(LineError::Memory) => Err(AllocError),
         Err(LineError::Refused(reason)) => Ok(Err(reason)),

@@ -10,6 +10,7 @@ ghost use Rattle.item_listing.specs.declared.past.ListingFault.{ListingFault as 
 
 use crate::limits::{begun_limit, byte_after_end, whole_limit};
 use crate::line::{LineError, read_line};
+use crate::names::RecentNames;
 use crate::past::{ListingFault, Past};
 use crate::{Item, Reason};
 use memchr::memchr;
@@ -26,7 +27,6 @@ enum ListError {
 /// Reads items from bytes that come in pieces of any size. Contracts see what it is about to read.
 #[derive(Drop)]
 pub struct Listing {
-    alloc: Global,
     bytes: Vec<u8>,
     /// Where the next line begins.
     at: usize,
@@ -34,6 +34,7 @@ pub struct Listing {
     searched: usize,
     past: Past,
     finished: bool,
+    names: RecentNames,
 }
 
 impl Model for Listing {
@@ -88,7 +89,7 @@ fn drop_front(bytes: &mut Vec<u8>, at: usize)
 }
 
 /// What a whole line says, without its line feed.
-fn read_whole(alloc: Global, past: Past, line: &[u8]) -> Result<Item, LineError>
+fn read_whole(names: &mut RecentNames, past: Past, line: &[u8]) -> Result<Item, LineError>
     requires { past.bytes ≤ MOST_BYTES }
     ensures { Gives result (whole_line past line.now) }
 {
@@ -97,7 +98,7 @@ fn read_whole(alloc: Global, past: Past, line: &[u8]) -> Result<Item, LineError>
     }
     match whole_limit(past.bytes, line.len()) {
         Some(reason) => Err(LineError::Refused(reason)),
-        None => read_line(alloc, past.tag_open, drop_return(line)),
+        None => read_line(names, past.tag_open, drop_return(line)),
     }
 }
 
@@ -137,12 +138,12 @@ impl Listing {
         ensures { result ≡ unread }
     {
         Listing {
-            alloc,
             bytes: Vec::new(alloc),
             at: 0,
             searched: 0,
             past: Past::nothing(),
             finished: false,
+            names: RecentNames::new(alloc),
         }
     }
 
@@ -198,7 +199,7 @@ impl Listing {
             self.searched = rest.len();
             return read_begun(self.past, rest, self.finished);
         };
-        match read_whole(self.alloc, self.past, &rest[..count]) {
+        match read_whole(&mut self.names, self.past, &rest[..count]) {
             Ok(item) => {
                 self.past = self.past.and_line(count, &item);
                 self.at += count + 1;

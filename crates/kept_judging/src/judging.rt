@@ -109,6 +109,7 @@ fn judged(
     let ground = AssessSet {
         view,
         tables: &set.attr_uses,
+        known: &set.known_uses,
         contents: &set.contents,
     };
     let judged = local(kept.alloc, &ground, &mut set.types, &element.pair, shape)?;

@@ -14,4 +14,5 @@ pub mod Rooting
 pub mod Outcome
 pub mod GroupGrowing
 pub mod Gathering
+pub mod Asking
 pub mod Making

@@ -12,6 +12,7 @@ use Rattle.particle_models.proofs.Growing.{model_is}
 use Rattle.particle_models.specs.Trees.{Tree, Trees, joined, once}
 use Rattle.particle_models.specs.Pointless.{is_one, is_once, members_by, within, formed, gathered, term_form, unless_pointless}
 use Rattle.particle_models.specs.Parts.{tree_in, form_in, trees_from, members_at}
+use Rattle.particle_models.specs.Asked.{IsAsked}
 use Rattle.particle_models.specs.Forming.{AreOrdered, Extends, IsPart, IsNoOccurrence, IsBody, IsMade, AreMade, AreThere, not_made, gathered_of, form_of}
 use Rattle.particle_models.specs.declared.part.Bounds.{Bounds}
 use Rattle.particle_models.specs.declared.part.Compositor.{Compositor}
@@ -45,6 +46,13 @@ once_within b = of (is_once b) refl
     of true e = rw e (sym (once_is b e))
     of false e = rw e refl
 
+pub both_once : (outer inner : Bounds) → is_once (within outer inner) ≡ true → is_once outer ≡ true
+both_once outer inner h = of (is_once inner) refl
+  where
+    of : (x : Bool) → is_once inner ≡ x → is_once outer ≡ true
+    of true e = rw e at h
+    of false e = absurd (false≢true (sym e ∙ rw e at h))
+
 -- ---- the model of a node, by its kind
 module _ (nodes : List Node) (i : ℕ) (n : Node) (ordered : IsOrdered nodes) (there : i < length nodes) (is : n ≡ get_or nodes i n) where
   pub model_read : (m : Node) → n ≡ m → model_in nodes i ≡ model_of (models_from [] nodes) m
@@ -66,77 +74,96 @@ no_occurrence (Choice members) h = tt
 no_occurrence (EachOf members) h = tt
 no_occurrence (Occurs part least most) h = h part least most refl
 
-module _ (stands_for : ℕ → List ℕ) (nodes : List Node) where
-  pub are_there : (parts : List Part) (made : List Made) → AreMade stands_for nodes parts made → AreThere parts made
+module _ (stands_for : ℕ → List ℕ) (nodes : List Node) (asked : List Bool) where
+  pub are_there : (parts : List Part) (made : List Made) → AreMade stands_for nodes asked parts made → AreThere parts made
   are_there parts made all i l = (all i l).there
 
   -- what stands for the members of a group is what was made of them
-  pub gathered_is : (parts : List Part) (made : List Made) (compositor : Compositor) → AreMade stands_for nodes parts made → (ms : List ℕ) → Each (λ id. id < length made) ms →
+  pub gathered_is : (parts : List Part) (made : List Made) (compositor : Compositor) → AreMade stands_for nodes asked parts made → (ms : List ℕ) → Each (λ id. id < length made) ms → Each (IsAsked asked) ms →
       gathered stands_for (members_of (map (model_at (models_from [] nodes)) ms)) compositor ≡ gathered_of compositor (map (form_of parts made) ms)
-  gathered_is parts made compositor all [] below = refl
-  gathered_is parts made compositor all (m ∷ ms) below =
-      let rest = gathered_is parts made compositor all ms (All-tail (λ id. id < length made) m ms below) in
-      ap (λ f. joined (members_by compositor f) (gathered stands_for (members_of (map (model_at (models_from [] nodes)) ms)) compositor)) (sym (all m (All-head (λ id. id < length made) m ms below)).form) ∙
+  gathered_is parts made compositor all [] below asks = refl
+  gathered_is parts made compositor all (m ∷ ms) below asks =
+      let rest = gathered_is parts made compositor all ms (All-tail (λ id. id < length made) m ms below) (All-tail (IsAsked asked) m ms asks) in
+      ap (λ f. joined (members_by compositor f) (gathered stands_for (members_of (map (model_at (models_from [] nodes)) ms)) compositor)) (sym ((all m (All-head (λ id. id < length made) m ms below)).form (All-head (IsAsked asked) m ms asks))) ∙
       ap (λ ts. joined (members_by compositor (form_of parts made m)) ts) rest
 
   -- a group of what was made of its members
-  pub grouped : (parts : List Part) (made : List Made) (compositor : Compositor) (bounds : Bounds) (body : ℕ) (ms below : List ℕ) → AreMade stands_for nodes parts made → body ≤ length made → Each (λ id. id < body) ms →
+  pub grouped : (parts : List Part) (made : List Made) (compositor : Compositor) (bounds : Bounds) (body : ℕ) (ms below : List ℕ) → AreMade stands_for nodes asked parts made → body ≤ length made → Each (λ id. id < body) ms → Each (IsAsked asked) ms →
       members_at (trees_from [] parts) below ≡ gathered_of compositor (map (form_of parts made) ms) →
       unless_pointless bounds compositor (gathered stands_for (members_of (map (model_at (models_from [] nodes)) ms)) compositor) ≡ unless_pointless bounds compositor (members_at (trees_from [] parts) below)
-  grouped parts made compositor bounds body ms below all l low e =
-      ap (unless_pointless bounds compositor) (gathered_is parts made compositor all ms (λ i d h. let k = low i d h in omega arith) ∙ sym e)
+  grouped parts made compositor bounds body ms below all l low asks e =
+      ap (unless_pointless bounds compositor) (gathered_is parts made compositor all ms (λ i d h. let k = low i d h in omega arith) asks ∙ sym e)
 
   -- what was made of a node stands
-  pub made_kept : (old new : List Part) (i : ℕ) (m : Made) → Extends old new → IsMade stands_for nodes old i m → IsMade stands_for nodes new i m
+  pub made_kept : (old new : List Part) (i : ℕ) (m : Made) → Extends old new → IsMade stands_for nodes asked old i m → IsMade stands_for nodes asked new i m
   made_kept old new i m h was = record {
     below = was.below;
     body = was.body;
     bounds = was.bounds;
     there = there_kept old new m.form h was.there;
-    form = form_kept old new m.form h was.there ∙ was.form;
+    form = λ a. form_kept old new m.form h was.there ∙ was.form a;
   }
 
-  pub made_more : (old new : List Part) (made : List Made) (next : Made) → Extends old new → AreMade stands_for nodes old made → IsMade stands_for nodes new (length made) next → AreMade stands_for nodes new (made ++ next ∷ [])
+  pub made_more : (old new : List Part) (made : List Made) (next : Made) → Extends old new → AreMade stands_for nodes asked old made → IsMade stands_for nodes asked new (length made) next → AreMade stands_for nodes asked new (made ++ next ∷ [])
   made_more old new made next h was is i l = elim (cases_lt i (length made)) [
-    | inl before ↦ subst (IsMade stands_for nodes new i) (sym (get_or_append_left made (next ∷ []) not_made i before)) (made_kept old new i (get_or made i not_made) h (was i before))
+    | inl before ↦ subst (IsMade stands_for nodes asked new i) (sym (get_or_append_left made (next ∷ []) not_made i before)) (made_kept old new i (get_or made i not_made) h (was i before))
     | inr behind ↦ (let e : length made ≡ i = let k = length_push made next in omega arith in
-        subst (IsMade stands_for nodes new i) (sym (get_or_push made next not_made i e)) (subst (λ (j : ℕ). IsMade stands_for nodes new j next) e is))
+        subst (IsMade stands_for nodes asked new i) (sym (get_or_push made next not_made i e)) (subst (λ (j : ℕ). IsMade stands_for nodes asked new j next) e is))
   ]
 
-  -- the form of a body with bounds 1 was made
-  pub form_made : (parts : List Part) (made : List Made) (body : ℕ) (m : Made) (bounds : Bounds) → AreMade stands_for nodes parts made → body < length made → m ≡ get_or made body not_made → IsBody nodes body →
-      is_once bounds ≡ true → IsPart parts parts (formed stands_for (model_in nodes body) bounds) m.form
-  form_made parts made body m bounds all l e b h =
-      let is : IsMade stands_for nodes parts body m = subst (IsMade stands_for nodes parts body) (sym e) (all body l) in
+  -- the form of what occurs once was made, where its occurrence asks for it
+  pub form_made : (parts : List Part) (part : ℕ) (own : Bounds) (inner : Made) → IsMade stands_for nodes asked parts part inner → (is_once own ≡ true → IsAsked asked part) →
+      is_once (within own inner.bounds) ≡ true → IsPart parts parts (formed stands_for (model_in nodes inner.body) (within own inner.bounds)) inner.form
+  form_made parts part own inner was asks h =
+      let both = both_once own inner.bounds h in
+      let e : within once inner.bounds ≡ within own inner.bounds = ap (λ b. within b inner.bounds) (sym (once_is own both)) in
       record {
         extends = extends_none parts;
-        there = is.there;
-        is = is.form ∙ ap (formed stands_for (model_in nodes body)) (sym (once_is bounds h));
+        there = was.there;
+        is = was.form (asks both) ∙ (was.bounds once ∙ ap (formed stands_for (model_in nodes inner.body)) e);
       }
+
+  -- what is made of a node without its form
+  pub none_made : (parts : List Part) (i body : ℕ) (bounds : Bounds) → body ≤ i → IsBody nodes body → (get_or asked i false ≡ false) →
+      ((b : Bounds) → formed stands_for (model_in nodes i) b ≡ formed stands_for (model_in nodes body) (within b bounds)) →
+      IsMade stands_for nodes asked parts i (record { body = body; bounds = bounds; form = None })
+  none_made parts i body bounds low b never all = record {
+    below = low;
+    body = b;
+    bounds = all;
+    there = tt;
+    form = λ a. absurd (false≢true (sym never ∙ a));
+  }
 
   -- what is made of a body
   pub body_made : (old new : List Part) (i : ℕ) (form : Option ℕ) → IsBody nodes i → IsPart old new (formed stands_for (model_in nodes i) once) form →
-      IsMade stands_for nodes new i (record { body = i; bounds = once; form = form })
+      IsMade stands_for nodes asked new i (record { body = i; bounds = once; form = form })
   body_made old new i form b is = record {
     below = omega arith;
     body = b;
     bounds = λ c. refl;
     there = is.there;
-    form = is.is;
+    form = λ a. is.is;
   }
 
-  -- what is made of an occurrence
-  pub occurrence_made : (old new : List Part) (i part : ℕ) (own : Bounds) (inner : Made) (form : Option ℕ) → part < i → IsMade stands_for nodes old part inner →
-      model_in nodes i ≡ occurs own.least own.most (model_in nodes part) →
-      IsPart old new (formed stands_for (model_in nodes inner.body) (within own inner.bounds)) form →
-      IsMade stands_for nodes new i (record { body = inner.body; bounds = within own inner.bounds; form = form })
-  occurrence_made old new i part own inner form l was e is =
-      let all : (b : Bounds) → formed stands_for (model_in nodes i) b ≡ formed stands_for (model_in nodes inner.body) (within b (within own inner.bounds)) =
-      (λ b. ap (λ p. formed stands_for p b) e ∙ (was.bounds (within b own) ∙ ap (formed stands_for (model_in nodes inner.body)) (within-assoc b own inner.bounds))) in
-      record {
-        below = (let k = was.below in omega arith);
-        body = was.body;
-        bounds = all;
-        there = is.there;
-        form = is.is ∙ sym (all once ∙ ap (formed stands_for (model_in nodes inner.body)) (once_within (within own inner.bounds)));
-      }
+  pub body_left : (parts : List Part) (i : ℕ) → IsBody nodes i → get_or asked i false ≡ false → IsMade stands_for nodes asked parts i (record { body = i; bounds = once; form = None })
+  body_left parts i b never = none_made parts i i once (omega arith) b never (λ c. refl)
+
+  module _ (old : List Part) (i part : ℕ) (own : Bounds) (inner : Made) (l : part < i) (was : IsMade stands_for nodes asked old part inner)
+      (e : model_in nodes i ≡ occurs own.least own.most (model_in nodes part)) where
+    occurs_within : (b : Bounds) → formed stands_for (model_in nodes i) b ≡ formed stands_for (model_in nodes inner.body) (within b (within own inner.bounds))
+    occurs_within b = ap (λ p. formed stands_for p b) e ∙ (was.bounds (within b own) ∙ ap (formed stands_for (model_in nodes inner.body)) (within-assoc b own inner.bounds))
+
+    -- what is made of an occurrence
+    pub occurrence_made : (new : List Part) (form : Option ℕ) → IsPart old new (formed stands_for (model_in nodes inner.body) (within own inner.bounds)) form →
+        IsMade stands_for nodes asked new i (record { body = inner.body; bounds = within own inner.bounds; form = form })
+    occurrence_made new form is = record {
+      below = (let k = was.below in omega arith);
+      body = was.body;
+      bounds = occurs_within;
+      there = is.there;
+      form = λ a. is.is ∙ sym (occurs_within once ∙ ap (formed stands_for (model_in nodes inner.body)) (once_within (within own inner.bounds)));
+    }
+
+    pub occurrence_left : get_or asked i false ≡ false → IsMade stands_for nodes asked old i (record { body = inner.body; bounds = within own inner.bounds; form = None })
+    occurrence_left never = none_made old i inner.body (within own inner.bounds) (let k = was.below in omega arith) was.body never occurs_within

@@ -3,6 +3,7 @@ use Rattle.std.specs.Prelude.{◌≡◌, ℕ, zero, suc, ◌<◌, ◌≤◌, ⊤
 use Rattle.particle_models.specs.declared.node.Node.{Node}
 use Rattle.particle_models.specs.declared.node.Node.TheVariants.{Term, Sequence, Choice, Each, Occurs}
 use Rattle.particle_models.specs.Nodes.{model_in}
+use Rattle.particle_models.specs.Asked.{IsAsked}
 use Rattle.particle_models.specs.Trees.{Tree, Trees, none, joined, once}
 use Rattle.particle_models.specs.Pointless.{formed, is_once, is_pointless_empty, members_by, within}
 use Rattle.particle_models.specs.Parts.{MembersBelow, tree_in, form_in}
@@ -47,14 +48,15 @@ IsBody nodes body = (d : Node) → IsNoOccurrence (slice_index_or nodes body d)
 abbrev pub not_made : Made
 not_made = record { body = 0; bounds = record { least = 0; most = None }; form = None }
 
-module _ (stands_for : ℕ → List ℕ) (nodes : List Node) where
-  -- what is known of a node: under the occurrences of which body it stands, by which bounds, and the part of its form
+module _ (stands_for : ℕ → List ℕ) (nodes : List Node) (asked : List Bool) where
+  -- what is known of a node: under the occurrences of which body it stands, by which bounds, and, where it is asked for, the part of
+  -- its form
   pub record IsMade (parts : List Part) (i : ℕ) (made : Made) : Type 0 where
     pub below : made.body ≤ i
     pub body : IsBody nodes made.body
     pub bounds : (b : Bounds) → formed stands_for (model_in nodes i) b ≡ formed stands_for (model_in nodes made.body) (within b made.bounds)
     pub there : IfSome made.form (λ k. k < length parts)
-    pub form : form_in parts made.form ≡ formed stands_for (model_in nodes i) once
+    pub form : IsAsked asked i → form_in parts made.form ≡ formed stands_for (model_in nodes i) once
 
   abbrev pub AreMade : List Part → List Made → Type 0
   AreMade parts made = (i : ℕ) → i < length made → IsMade parts i (slice_index_or made i not_made)

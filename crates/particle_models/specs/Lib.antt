@@ -10,4 +10,5 @@ pub mod Numbering
 pub mod Trees
 pub mod Pointless
 pub mod Parts
+pub mod Asked
 pub mod Forming

@@ -6,7 +6,8 @@ ghost use Rattle.particle_models.specs.Pointless.{without_pointless};
 ghost use Rattle.particle_models.specs.Parts.{IsForm, form_in};
 
 use crate::Node;
-use crate::forming::make_node;
+use crate::asked::asked_of;
+use crate::forming::{Source, make_nodes};
 use crate::part::Part;
 use std::alloc::{AllocError, Global};
 use xs_lists::Listed;
@@ -36,12 +37,14 @@ pub fn without_pointless(
     ensures form { IfOk result (λ form. IsForm form.parts.items form.root) }
     ensures tree { IfOk result (λ form. form_in form.parts.items form.root ≡ without_pointless (λ n. slice_index_or stands_for.now n []) (model_in nodes.now root)) }
 {
+    let asked = asked_of(alloc, nodes, root)?;
+    let source = Source {
+        nodes,
+        asked: &asked,
+        stands_for,
+    };
     let mut parts = Vec::new(alloc);
-    let mut made = Vec::new(alloc);
-    for number in 0..nodes.len() {
-        let next = make_node(alloc, &mut parts, &made, nodes, stands_for, number)?;
-        made.push(next)?;
-    }
+    let made = make_nodes(alloc, &mut parts, &source)?;
     let root = made[root as usize].form;
     Ok(Form { parts, root })
 }

@@ -1,9 +1,10 @@
 //! The parts of forms, node by node.
 
-ghost use Rattle.std.specs.Prelude.{◌≡◌, ◌<◌, ◌≤◌, Some, [], map, length, All, slice_index_or, IfSome, IfOk, OnOk, MatchOption};
+ghost use Rattle.std.specs.Prelude.{◌≡◌, ◌<◌, ◌≤◌, true, Some, [], map, length, All, slice_index_or, IfSome, IfOk, OnOk, MatchOption};
 ghost use Rattle.particle_models.specs.Nodes.{model_in, IsOrdered};
+ghost use Rattle.particle_models.specs.Asked.{AreAsked};
 ghost use Rattle.particle_models.specs.Trees.{none, member, joined};
-ghost use Rattle.particle_models.specs.Pointless.{formed, unless_pointless, members_by, leaves, term_form};
+ghost use Rattle.particle_models.specs.Pointless.{formed, is_once, unless_pointless, members_by, leaves, term_form};
 ghost use Rattle.particle_models.specs.Parts.{tree_in, form_in, trees_from, tree_of, members_at, MembersBelow};
 ghost use Rattle.particle_models.specs.Forming.{AreOrdered, Extends, IsPart, IsBody, IsMade, AreMade, AreThere, is_pointless_with, gathered_of, form_of};
 
@@ -20,72 +21,104 @@ pub(crate) struct Made {
     pub(crate) form: Option<u32>,
 }
 
-/// Makes the form of the next node, over what was made of those before it.
-pub(crate) fn make_node(
+/// What forms are made from: the nodes, whether the form of each is asked for, and for each particle the terms that it stands for.
+#[derive(Clone, Copy)]
+pub(crate) struct Source<'a> {
+    pub(crate) nodes: &'a [Node],
+    pub(crate) asked: &'a [bool],
+    pub(crate) stands_for: &'a [Listed<u32>],
+}
+
+/// Makes the forms of all nodes that are asked for, each over what was made of those before it.
+pub(crate) fn make_nodes(
+    alloc: Global,
+    parts: &mut Vec<Part>,
+    source: &Source<'_>,
+) -> Result<Vec<Made>, AllocError>
+    requires nodes { IsOrdered source.now.nodes.now }
+    requires asked { AreAsked source.now.nodes.now source.now.asked.now }
+    requires ordered { AreOrdered parts.old.items }
+    ensures ordered { OnOk result (AreOrdered parts.new.items) }
+    ensures count { IfOk result (λ made. length made.items ≡ length source.now.nodes.now) }
+    ensures made { IfOk result (λ made. AreMade (λ n. slice_index_or source.now.stands_for.now n []) source.now.nodes.now source.now.asked.now parts.new.items made.items) }
+{
+    let mut made = Vec::new(alloc);
+    for number in 0..source.nodes.len() {
+        let next = make_node(alloc, parts, &made, source, number)?;
+        made.push(next)?;
+    }
+    Ok(made)
+}
+
+/// Makes the form of the next node, where it is asked for.
+fn make_node(
     alloc: Global,
     parts: &mut Vec<Part>,
     made: &[Made],
-    nodes: &[Node],
-    stands_for: &[Listed<u32>],
+    source: &Source<'_>,
     number: usize,
 ) -> Result<Made, AllocError>
-    requires nodes { IsOrdered nodes.now }
+    requires nodes { IsOrdered source.now.nodes.now }
+    requires asked { AreAsked source.now.nodes.now source.now.asked.now }
     requires number { number ≡ length made.now }
-    requires there { number < length nodes.now }
+    requires there { number < length source.now.nodes.now }
     requires ordered { AreOrdered parts.old.items }
-    requires made { AreMade (λ n. slice_index_or stands_for.now n []) nodes.now parts.old.items made.now }
+    requires made { AreMade (λ n. slice_index_or source.now.stands_for.now n []) source.now.nodes.now source.now.asked.now parts.old.items made.now }
     ensures extends { OnOk result (Extends parts.old.items parts.new.items) }
-    ensures made { IfOk result (IsMade (λ n. slice_index_or stands_for.now n []) nodes.now parts.new.items number) }
+    ensures made { IfOk result (IsMade (λ n. slice_index_or source.now.stands_for.now n []) source.now.nodes.now source.now.asked.now parts.new.items number) }
 {
-    match &nodes[number] {
+    match &source.nodes[number] {
         Node::Occurs(part, least, most) => {
             let inner = made[*part as usize];
             let outer = Bounds {
                 least: *least,
                 most: *most,
             };
+            let body = inner.body;
             let bounds = outer.around(inner.bounds);
-            let form = form_with(alloc, parts, made, nodes, stands_for, inner.body, bounds)?;
-            Ok(Made {
-                body: inner.body,
-                bounds,
-                form,
-            })
+            let form = if source.asked[number] {
+                form_with(alloc, parts, made, source, inner, bounds)?
+            } else {
+                None
+            };
+            Ok(Made { body, bounds, form })
         }
         _ => {
+            let body = number;
             let bounds = Bounds::once();
-            let form = add_body(alloc, parts, made, nodes, stands_for, number, bounds)?;
-            Ok(Made {
-                body: number,
-                bounds,
-                form,
-            })
+            let form = if source.asked[number] {
+                add_body(alloc, parts, made, source, body, bounds)?
+            } else {
+                None
+            };
+            Ok(Made { body, bounds, form })
         }
     }
 }
 
-/// The form of a node that is no occurrence, with these bounds; it was made where they are 1 and 1.
+/// The form of the node below some occurrences, with these bounds around it; it was made where they are 1 and 1.
 fn form_with(
     alloc: Global,
     parts: &mut Vec<Part>,
     made: &[Made],
-    nodes: &[Node],
-    stands_for: &[Listed<u32>],
-    body: usize,
+    source: &Source<'_>,
+    inner: Made,
     bounds: Bounds,
 ) -> Result<Option<u32>, AllocError>
-    requires nodes { IsOrdered nodes.now }
-    requires below { body < length made.now }
-    requires there { body < length nodes.now }
-    requires body { IsBody nodes.now body }
+    requires nodes { IsOrdered source.now.nodes.now }
+    requires asked { AreAsked source.now.nodes.now source.now.asked.now }
+    requires below { inner.body < length made.now }
+    requires there { inner.body < length source.now.nodes.now }
+    requires body { IsBody source.now.nodes.now inner.body }
     requires ordered { AreOrdered parts.old.items }
-    requires made { AreMade (λ n. slice_index_or stands_for.now n []) nodes.now parts.old.items made.now }
-    ensures { IfOk result (IsPart parts.old.items parts.new.items (formed (λ n. slice_index_or stands_for.now n []) (model_in nodes.now body) bounds)) }
+    requires made { AreMade (λ n. slice_index_or source.now.stands_for.now n []) source.now.nodes.now source.now.asked.now parts.old.items made.now }
+    requires once { is_once bounds ≡ true → IsPart parts.old.items parts.old.items (formed (λ n. slice_index_or source.now.stands_for.now n []) (model_in source.now.nodes.now inner.body) bounds) inner.form }
+    ensures { IfOk result (IsPart parts.old.items parts.new.items (formed (λ n. slice_index_or source.now.stands_for.now n []) (model_in source.now.nodes.now inner.body) bounds)) }
 {
     if bounds.is_once() {
-        return Ok(made[body].form);
+        return Ok(inner.form);
     }
-    add_body(alloc, parts, made, nodes, stands_for, body, bounds)
+    add_body(alloc, parts, made, source, inner.body, bounds)
 }
 
 /// Adds the form of a node that is no occurrence, with these bounds.
@@ -93,21 +126,23 @@ fn add_body(
     alloc: Global,
     parts: &mut Vec<Part>,
     made: &[Made],
-    nodes: &[Node],
-    stands_for: &[Listed<u32>],
+    source: &Source<'_>,
     body: usize,
     bounds: Bounds,
 ) -> Result<Option<u32>, AllocError>
-    requires nodes { IsOrdered nodes.now }
+    requires nodes { IsOrdered source.now.nodes.now }
+    requires asked { AreAsked source.now.nodes.now source.now.asked.now }
     requires below { body ≤ length made.now }
-    requires there { body < length nodes.now }
-    requires body { IsBody nodes.now body }
+    requires there { body < length source.now.nodes.now }
+    requires body { IsBody source.now.nodes.now body }
     requires ordered { AreOrdered parts.old.items }
-    requires made { AreMade (λ n. slice_index_or stands_for.now n []) nodes.now parts.old.items made.now }
-    ensures { IfOk result (IsPart parts.old.items parts.new.items (formed (λ n. slice_index_or stands_for.now n []) (model_in nodes.now body) bounds)) }
+    requires made { AreMade (λ n. slice_index_or source.now.stands_for.now n []) source.now.nodes.now source.now.asked.now parts.old.items made.now }
+    ensures { IfOk result (IsPart parts.old.items parts.new.items (formed (λ n. slice_index_or source.now.stands_for.now n []) (model_in source.now.nodes.now body) bounds)) }
 {
-    match &nodes[body] {
-        Node::Term(particle) => { add_term(alloc, parts, bounds, terms_of(stands_for, *particle)) }
+    match &source.nodes[body] {
+        Node::Term(particle) => {
+            add_term(alloc, parts, bounds, terms_of(source.stands_for, *particle))
+        }
         Node::Sequence(members) => {
             let below = gather(alloc, parts, made, Compositor::Sequence, members.as_slice())?;
             add_group(parts, bounds, Compositor::Sequence, below)

@@ -8,14 +8,14 @@ ghost use Rattle.xpath_subset.specs.Reaches.{expanded_name};
 ghost use Rattle.xpath_subset.specs.Reached as paths;
 ghost use Rattle.identity_constraints.specs.Targets as spec;
 ghost use Rattle.identity_constraints.specs.Seen.{KeyForest};
-ghost use Rattle.path_walk.specs.Sight.{IsNamed, attributes_of, seen};
+ghost use Rattle.path_walk.specs.Sight.{IsNamed, seen};
 ghost use Rattle.path_walk.specs.inside.Nodes.{AreAdded};
 ghost use Rattle.path_walk.specs.inside.Walk.{reached};
 
 use crate::declared_by::{governs_structure, is_nillable};
 use crate::nodes::{FieldNodes, NodeFacts};
 use crate::{KeySet, KeySight};
-use assess_records::AttrRecord;
+use assess_records::{AttrRecord, Shared};
 use simple_values::Value;
 use std::alloc::AllocError;
 use xpath_subset::{Paths, is_reached, reached_is_a_test};
@@ -68,14 +68,15 @@ fn add_attribute(
     nodes: &mut FieldNodes,
 ) -> Result<(), AllocError>
     requires way { All (λ name. name < length set.now.names.now.names) way.now }
-    requires named { attribute.name < length set.now.names.now.names }
-    ensures { OnOk result (AreAdded set.now.parts.now (spec.attribute_at set.now.names.now field.now way.now (record { name = attribute.entry.name; value = attribute.entry.value.now })) nodes.old nodes.new) }
+    requires named { attribute.record.now.name < length set.now.names.now.names }
+    ensures { OnOk result (AreAdded set.now.parts.now (spec.attribute_at set.now.names.now field.now way.now (record { name = attribute.entry.record.now.name; value = attribute.entry.value.now })) nodes.old nodes.new) }
 {
-    if !reaches(set.names, field, way, Some(attribute.name)) {
+    let record = attribute.record.get();
+    if !reaches(set.names, field, way, Some(record.name)) {
         return Ok(());
     }
     let node = NodeFacts {
-        value: attribute.value,
+        value: attribute.value.get(),
         complex: false,
         nillable: false,
     };
@@ -85,8 +86,8 @@ fn add_attribute(
 // An attribute with its value.
 #[derive(Clone, Copy)]
 struct KeyAttr<'a> {
-    name: NameId,
-    value: &'a Option<Value>,
+    record: &'a Shared<AttrRecord>,
+    value: &'a Shared<Option<Value>>,
 }
 
 // Adds the attributes of an element to the nodes of a field, as far as the field reaches them.
@@ -101,14 +102,14 @@ fn add_attributes(
     requires named { IsNamed set.now.names.now (seen own.now) }
     ensures { OnOk result (AreAdded set.now.parts.now (flat_map (spec.attribute_at set.now.names.now field.now way.now) (seen own.now).attributes) nodes.old nodes.new) }
 {
-    let mut attrs: &[AttrRecord] = own.attrs;
-    let mut values: &[Option<Value>] = own.attr_values;
+    let mut attrs: &[Shared<AttrRecord>] = own.attrs;
+    let mut values: &[Shared<Option<Value>>] = own.attr_values;
     'attrs: while let Some((attr, more)) = attrs.split_first() {
         let Some((value, others)) = values.split_first() else {
             return Ok(());
         };
         let attribute = KeyAttr {
-            name: attr.name,
+            record: attr,
             value,
         };
         add_attribute(set, field, way, attribute, nodes)?;

@@ -4,7 +4,7 @@ ghost use Rattle.std.specs.Prelude.{◌≡◌, MatchOption};
 ghost use Rattle.identity_constraints.specs.Seen.{KeyForest, none};
 ghost use Rattle.path_walk.specs.Sight.{IsFirst, behind_first, below_first, seen};
 
-use assess_records::AttrRecord;
+use assess_records::{AttrRecord, Shared};
 use simple_values::Value;
 use xs_components::{ElementId, TypeId};
 use xs_names::NameId;
@@ -21,9 +21,9 @@ pub struct KeySight<'a> {
     /// The value of its text, where that is valid by a simple type and the element is neither nil nor skipped.
     pub value: &'a Option<Value>,
     /// Its attributes, given and added.
-    pub attrs: &'a [AttrRecord],
+    pub attrs: &'a [Shared<AttrRecord>],
     /// Their values, where they are valid by simple types.
-    pub attr_values: &'a [Option<Value>],
+    pub attr_values: &'a [Shared<Option<Value>>],
 }
 
 /// Sibling elements, from one of them on, with all that is below them. Contracts see a forest.

@@ -8,7 +8,7 @@ ghost use Rattle.report_text.specs.Words as words;
 use crate::codes::write_codes;
 use crate::names::{write_name, write_type};
 use crate::words::{attempted_word, source_word, validity_word};
-use assess_records::{Attempted, AttrRecord, Codes, ElementRecord, Validity, ValueSource};
+use assess_records::{Attempted, AttrRecord, Codes, ElementRecord, Shared, Validity, ValueSource};
 use xs_components::{Components, TypeId};
 use xs_names::{NameId, Names};
 use xsv_io::{Failed, Part, Sink, write_parts, write_text};
@@ -18,7 +18,7 @@ use xsv_io::{Failed, Part, Sink, write_parts, write_text};
 pub struct Records<'a> {
     pub element: &'a ElementRecord,
     /// Those of its attributes: the given ones in document order, then those that the schema adds.
-    pub attrs: &'a [AttrRecord],
+    pub attrs: &'a [Shared<AttrRecord>],
 }
 
 /// Writes what is known behind a type.
@@ -124,7 +124,7 @@ fn of_element(record: &ElementRecord) -> Finding<'_>
 }
 
 /// What is found out about an attribute.
-fn of_attr(record: &AttrRecord) -> Finding<'_>
+fn of_attr(record: &Shared<AttrRecord>) -> Finding<'_>
     ensures name { result.name ≡ record.now.name }
     ensures of { result.of ≡ record.now.of }
     ensures validity { result.validity ≡ record.now.validity }
@@ -132,6 +132,7 @@ fn of_attr(record: &AttrRecord) -> Finding<'_>
     ensures source { result.source ≡ record.now.source }
     ensures found { result.codes.now ≡ record.now.codes }
 {
+    let record = record.get();
     Finding {
         name: record.name,
         of: record.of,
@@ -193,7 +194,7 @@ pub fn write_attr<W: Sink>(
     names: &Names,
     parts: &Components,
     number: u32,
-    record: &AttrRecord,
+    record: &Shared<AttrRecord>,
 ) -> Result<(), Failed>
     requires named { IsNamed names.now parts.now record.now.name record.now.of }
     ensures written { Written W.taken W.faults W.fault_bound sink.old sink.new result (lines.attr_line names.now parts.now number record.now) }
@@ -209,7 +210,7 @@ fn write_attrs<W: Sink>(
     names: &Names,
     parts: &Components,
     number: u32,
-    records: &[AttrRecord],
+    records: &[Shared<AttrRecord>],
 ) -> Result<(), Failed>
     requires named { AreNamed names.now parts.now records.now }
     ensures written { Written W.taken W.faults W.fault_bound sink.old sink.new result (lines.attr_lines names.now parts.now number records.now) }

@@ -27,7 +27,7 @@ use Rattle.facets.specs.declared.facets.Facets.{Facets}
 use Rattle.facets.specs.declared.known.Judged.{Judged}
 use Rattle.facets.specs.declared.known.Known.{Known}
 use Rattle.facets.specs.declared.known.Known.TheVariants as knowns
-use Rattle.facets.specs.declared.members.Members.{Members}
+use Rattle.facets.specs.UnionMembers.{Members}
 use Rattle.facets.specs.Facets.{judged_by, IsStepJudged}
 use Rattle.facets.specs.Making.{no_members, with_member}
 use Rattle.facets.specs.Reading.{IsStepReadBy}

@@ -7,6 +7,9 @@ use Rattle.xs_codes.specs.Least.{IsLeast}
 use Rattle.xs_names.proofs.GrownLaws.{Grown-refl}
 use Rattle.xs_components.specs.Tables.{Tables}
 use Rattle.derive_faults.specs.AttrFaults.{IsAttrFault}
+use Rattle.attr_assess.specs.Known.{AreKnownUses}
+use Rattle.attr_assess.specs.Types.{IsTypeSet}
+use Rattle.attr_assess.specs.declared.known.KnownUses.{KnownUses}
 use Rattle.content_models.specs.declared.automaton.ContentAutomaton.{ContentAutomaton}
 use Rattle.schema_models.specs.Checks.{IsAmbiguousModel}
 use Rattle.schema_models.specs.declared.fault.ModelFault.TheVariants.{Ambiguous}
@@ -24,7 +27,7 @@ use Rattle.schema_compile.specs.inside.Finding.{IsFound, AreModelsOf, AreContent
 use Rattle.schema_compile.proofs.MemberLaws.{members-named}
 
 module _ (made : CompiledSet) (whole : Faultless) (fit : IsFit made) (is : IsFound made.parts whole.found) (there : AreContentsThere made.parts)
-    (are : AreModelsOf made whole.found (Ok whole.models)) (paths : AreIdentities made.parts whole.identities.items)
+    (are : AreModelsOf made whole.found (Ok whole.models)) (paths : AreIdentities made.parts whole.identities.items) (known : KnownUses) (uses : AreKnownUses made.parts known)
   where
     abbrev found : Found
     found = whole.found
@@ -33,7 +36,7 @@ module _ (made : CompiledSet) (whole : Faultless) (fit : IsFit made) (is : IsFou
     automata = whole.models
 
     abbrev c : Compiled
-    c = joined made whole
+    c = joined made whole known
 
     unambiguous : (n p : ℕ) → n < length made.parts.complexes.parts → models.content_of made.parts n ≡ Some p → IsAmbiguousModel made.names made.parts found.members p → ⊥
     unambiguous n p l content ambiguous = are.0 (models.type_fault made.parts n CosNonambig) (n, l, (p, Ambiguous, content, ambiguous, refl))
@@ -69,6 +72,7 @@ module _ (made : CompiledSet) (whole : Faultless) (fit : IsFit made) (is : IsFou
       judging = record { ranked = fit.ranked; contents_are = is.contents; types_are = fit.judged; whole = fit.whole };
       attributes = (is.attr_uses.ids, record { ranked = fit.ranked; at_top = is.named; uses = is.attr_uses.are });
       attribute_types = record { ranked = fit.ranked; judged = fit.judged; whole = fit.literals; simple = fit.readable };
+      known_uses = uses;
       groups = is.members;
       classes_are = is.classes;
       first = made.names;
@@ -76,9 +80,13 @@ module _ (made : CompiledSet) (whole : Faultless) (fit : IsFit made) (is : IsFou
       identities_are = paths;
     }
 
-pub accepted : ((t : Tables) (ids : List Bool) → IsLeast (IsAttrFault t ids) None → HaveUses t) → (made : CompiledSet) (whole : Faultless) (c : Compiled) → IsFit made → c ≡ joined made whole → IsJudged made (Ok whole)
-    → IsSetOutcome made (Accepted c)
-accepted uses made whole c fit same judged =
+pub accepted : ((t : Tables) (ids : List Bool) → IsLeast (IsAttrFault t ids) None → HaveUses t) → (made : CompiledSet) (whole : Faultless) (known : KnownUses) (c : Compiled) → IsFit made →
+    AreKnownUses made.parts known → c ≡ joined made whole known → IsJudged made (Ok whole) → IsSetOutcome made (Accepted c)
+accepted uses made whole known c fit are same judged =
     let attrs = judged.0.0 in
     subst (λ (x : Compiled). IsSetOutcome made (Accepted x)) (sym same)
-    (judged.0, record { names = refl; parts = refl; types = refl }, usable made whole fit judged.1 judged.3 judged.2 judged.4, uses made.parts attrs.0 (λ fault x. attrs.2 fault (inl x)))
+    (judged.0, record { names = refl; parts = refl; types = refl }, usable made whole fit judged.1 judged.3 judged.2 judged.4 known are, uses made.parts attrs.0 (λ fault x. attrs.2 fault (inl x)))
+
+-- the types of a set that fits
+pub types-fit : (made : CompiledSet) → IsFit made → IsTypeSet made.parts made.types
+types-fit made fit = record { ranked = fit.ranked; judged = fit.judged; whole = fit.literals; simple = fit.readable }

@@ -1,6 +1,6 @@
 //! Schema documents compiled.
 
-ghost use Rattle.std.specs.Prelude.{◌≡◌, ◌<◌, All, IfOk, length};
+ghost use Rattle.std.specs.Prelude.{◌≡◌, ◌<◌, Ok, All, IfOk, length};
 ghost use Rattle.tree_rows.specs.Whole.{IsTree};
 ghost use Rattle.schema_compile.specs.Fit.{IsFit};
 ghost use Rattle.schema_compile.specs.Outcomes as spec;
@@ -10,6 +10,7 @@ use crate::Outcome;
 use crate::finding::Faultless;
 use crate::judging::judge;
 use crate::laws::compiled_parts_are_fit;
+use attr_assess::KnownUses;
 use compiled_schema::Compiled;
 use derive_faults::faultless_types_have_uses;
 use schema_check::CompiledSet;
@@ -18,8 +19,8 @@ use std::alloc::{AllocError, Global};
 use xs_codes::Fault;
 
 // A set with what was found of it.
-fn joined(set: CompiledSet, whole: Faultless) -> Compiled
-    ensures { result ≡ inside.joined set whole }
+fn joined(set: CompiledSet, whole: Faultless, known_uses: KnownUses) -> Compiled
+    ensures { result ≡ inside.joined set whole known_uses }
 {
     let found = whole.found;
     Compiled {
@@ -31,22 +32,37 @@ fn joined(set: CompiledSet, whole: Faultless) -> Compiled
         declarations: found.declarations,
         named: found.named,
         attr_uses: found.attr_uses,
+        known_uses,
         contents: found.contents,
         models: whole.models,
         identities: whole.identities,
     }
 }
 
-// What a set comes to.
-fn outcome_of(set: CompiledSet, judged: Result<Faultless, Fault>) -> Outcome
+// A set without a fault, with what was found of it.
+fn accepted(alloc: Global, mut set: CompiledSet, whole: Faultless) -> Result<Outcome, AllocError>
     requires fit { IsFit set }
-    requires judged { inside.IsJudged set judged }
-    ensures { spec.IsSetOutcome set result }
+    requires judged { inside.IsJudged set (Ok whole) }
+    ensures { IfOk result (spec.IsSetOutcome set) }
 {
     faultless_types_have_uses();
+    let known = KnownUses::of(alloc, &set.parts, &mut set.types)?;
+    Ok(Outcome::Accepted(joined(set, whole, known)))
+}
+
+// What a set comes to.
+fn outcome_of(
+    alloc: Global,
+    set: CompiledSet,
+    judged: Result<Faultless, Fault>,
+) -> Result<Outcome, AllocError>
+    requires fit { IsFit set }
+    requires judged { inside.IsJudged set judged }
+    ensures { IfOk result (spec.IsSetOutcome set) }
+{
     match judged {
-        Ok(whole) => Outcome::Accepted(joined(set, whole)),
-        Err(fault) => Outcome::Broken(fault),
+        Ok(whole) => accepted(alloc, set, whole),
+        Err(fault) => Ok(Outcome::Broken(fault)),
     }
 }
 
@@ -56,7 +72,7 @@ fn complete(alloc: Global, mut set: CompiledSet) -> Result<Outcome, AllocError>
     ensures { IfOk result (spec.IsSetOutcome set) }
 {
     match judge(alloc, &mut set) {
-        Ok(judged) => Ok(outcome_of(set, judged)),
+        Ok(judged) => outcome_of(alloc, set, judged),
         Err(error) => Err(error),
     }
 }

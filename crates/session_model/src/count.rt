@@ -2,16 +2,16 @@ ghost use Rattle.std.specs.Prelude.{◌≡◌, ◌≤◌, ◌^◌, map, MatchOpt
 ghost use Rattle.session_model.specs.Asking.{attr_total, entry_total, code_total};
 ghost use Rattle.tree_assess.specs.Entries.{entry_of};
 
-use assess_records::AttrRecord;
+use assess_records::{AttrRecord, Shared};
 use tree_assess::ElementEntry;
 
 /// The number of codes of the records of attributes, `None` where it does not fit.
-fn count_attr_codes(attrs: &[AttrRecord]) -> Option<u64>
+fn count_attr_codes(attrs: &[Shared<AttrRecord>]) -> Option<u64>
     ensures { MatchOption result (2 ^ 64 ≤ attr_total attrs.now) (λ total. total ≡ attr_total attrs.now) }
 {
     let mut total: u64 = 0;
     for record in attrs {
-        total = total.checked_add(record.codes.len() as u64)?;
+        total = total.checked_add(record.get().codes.len() as u64)?;
     }
     Some(total)
 }

@@ -11,7 +11,7 @@ ghost use Rattle.session_model.specs.inside.Telling as telling;
 ghost use Rattle.session_model.specs.inside.Telling.{element_line_of, lines_of, told_text, text_of, left_all};
 
 use crate::Session;
-use assess_records::{AttrRecord, Codes, ElementRecord};
+use assess_records::{AttrRecord, Codes, ElementRecord, Shared};
 use compiled_schema::Compiled;
 use report_text::{Records, write_attr, write_record};
 use what_is_found::{each_element_is_found_once, the_root_is_found_first};
@@ -66,13 +66,13 @@ fn tell_attr<W: Sink>(
     sink: &mut W,
     set: &Compiled,
     node: u32,
-    record: &AttrRecord,
+    record: &Shared<AttrRecord>,
     left: Option<u32>,
 ) -> Result<(), Failed>
     requires named { IsNamed set.now.names set.now.parts record.now.name record.now.of }
     ensures written { Written W.taken W.faults W.fault_bound sink.old sink.new result (told_text left (attr_line_of (set_of set.now) node record.now)) }
 {
-    if is_told(left, &record.codes) {
+    if is_told(left, &record.get().codes) {
         write_attr(sink, &set.names, &set.parts, node, record)
     } else {
         Ok(())
@@ -84,7 +84,7 @@ fn tell_attrs<W: Sink>(
     sink: &mut W,
     set: &Compiled,
     node: u32,
-    attrs: &[AttrRecord],
+    attrs: &[Shared<AttrRecord>],
     left: &mut Option<u32>,
 ) -> Result<(), Failed>
     requires named { AreNamed set.now.names set.now.parts attrs.now }
@@ -94,7 +94,7 @@ fn tell_attrs<W: Sink>(
     let mut rest = attrs;
     'attrs: while let Some((record, more)) = rest.split_first() {
         tell_attr(sink, set, node, record, *left)?;
-        *left = left_behind(*left, &record.codes);
+        *left = left_behind(*left, &record.get().codes);
         rest = more;
     }
     Ok(())

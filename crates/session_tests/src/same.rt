@@ -36,7 +36,7 @@ pub fn are_same_records(one: &Records<'_>, other: &Records<'_>) -> bool {
     let mut same = is_same_element(one.element, other.element)
         && one.attrs.len() == other.attrs.len();
     for (a, b) in one.attrs.iter().zip(other.attrs) {
-        same = same && is_same_attribute(a, b);
+        same = same && is_same_attribute(a.get(), b.get());
     }
     same
 }

@@ -11,7 +11,7 @@ use Rattle.facets.specs.declared.known.Known.TheVariants.{Whole, Facets as Facet
 use Rattle.facets.specs.declared.members.Gate.{Gate}
 use Rattle.facets.specs.declared.members.Choices.{Choices}
 use Rattle.facets.specs.declared.members.Member.{Member}
-use Rattle.facets.specs.declared.members.Members.{Members}
+use Rattle.facets.specs.UnionMembers.{Members}
 use Rattle.facets.specs.declared.members.Source.{Source}
 use Rattle.facets.specs.declared.members.Source.TheVariants.{Literals as OfLiterals, Union as OfUnion}
 use Rattle.facets.specs.Members.{moved_on}

@@ -21,7 +21,7 @@ use Rattle.component_references.specs.Ranked.{named_types, IsRanked}
 use Rattle.facets.specs.declared.facets.Facets.{Facets}
 use Rattle.facets.specs.declared.known.Known.{Known}
 use Rattle.facets.specs.declared.known.Known.TheVariants.{Whole}
-use Rattle.facets.specs.declared.members.Members.{Members}
+use Rattle.facets.specs.UnionMembers.{Members}
 use Rattle.facets.specs.Making.{no_members, with_member}
 use Rattle.facets.specs.Source.{list_of}
 use Rattle.simple_types.specs.TypeTree.{TypeTree, not_simple, restriction, list_type, union_type, members_of}

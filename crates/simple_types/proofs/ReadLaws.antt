@@ -21,7 +21,7 @@ use Rattle.facets.specs.declared.members.Choices.{Choices}
 use Rattle.facets.specs.declared.members.Literals.{Literals}
 use Rattle.facets.specs.declared.members.Literals.TheVariants.{OfBuiltin, OfList}
 use Rattle.facets.specs.declared.members.Member.{Member}
-use Rattle.facets.specs.declared.members.Members.{Members}
+use Rattle.facets.specs.UnionMembers.{Members}
 use Rattle.facets.specs.declared.members.Source.{Source}
 use Rattle.facets.specs.declared.members.Source.TheVariants.{Literals as OfLiterals, Union as OfUnion}
 use Rattle.facets.specs.declared.trying.Turn.{Turn}

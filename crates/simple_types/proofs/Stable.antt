@@ -16,7 +16,7 @@ use Rattle.component_references.specs.Heights.{first_height, IsLower}
 use Rattle.component_references.specs.Ranked.{named_types, IsRanked}
 use Rattle.facets.specs.declared.known.Known.{Known}
 use Rattle.facets.specs.declared.known.Known.TheVariants.{Whole}
-use Rattle.facets.specs.declared.members.Members.{Members}
+use Rattle.facets.specs.UnionMembers.{Members}
 use Rattle.facets.specs.Making.{no_members, with_member}
 use Rattle.facets.specs.Source.{union_of}
 use Rattle.simple_types.specs.SimpleValidity.{made_from_both}

@@ -12,7 +12,7 @@ use Rattle.facets.specs.declared.atomic.Accepted.{Accepted}
 use Rattle.facets.specs.declared.facets.Facets.{Facets}
 use Rattle.facets.specs.declared.known.Known.{Known}
 use Rattle.facets.specs.declared.known.Known.TheVariants as knowns
-use Rattle.facets.specs.declared.members.Members.{Members}
+use Rattle.facets.specs.UnionMembers.{Members}
 use Rattle.facets.specs.Atomic.{way_of}
 use Rattle.facets.specs.Facets.{IsStepJudged}
 use Rattle.facets.specs.Making.{no_members, with_member}

@@ -13,7 +13,7 @@ use Rattle.facets.specs.declared.facets.Facets.{Facets}
 use Rattle.facets.specs.declared.known.Judged.{Judged}
 use Rattle.facets.specs.declared.known.Known.{Known}
 use Rattle.facets.specs.declared.known.Known.TheVariants as knowns
-use Rattle.facets.specs.declared.members.Members.{Members}
+use Rattle.facets.specs.UnionMembers.{Members}
 use Rattle.facets.specs.Facets.{IsStepJudged}
 use Rattle.facets.specs.Making.{no_members, with_member}
 use Rattle.facets.specs.Source.{list_of, union_of}

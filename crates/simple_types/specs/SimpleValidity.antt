@@ -12,7 +12,7 @@ use Rattle.facets.specs.declared.facets.Facets.{Facets}
 use Rattle.facets.specs.declared.known.Judged.{Judged}
 use Rattle.facets.specs.declared.known.Known.{Known}
 use Rattle.facets.specs.declared.known.Known.TheVariants as knowns
-use Rattle.facets.specs.declared.members.Members.{Members}
+use Rattle.facets.specs.UnionMembers.{Members}
 use Rattle.facets.specs.Atomic.{IsAtomicRead, way_of}
 use Rattle.facets.specs.Making.{no_members, with_member}
 use Rattle.facets.specs.Source.{of_builtin, list_of, union_of, IsUnionJudged}

@@ -4,4 +4,7 @@ pub mod Faults
 pub mod Resolving
 pub mod Tables
 pub mod Keys
+pub mod Packed
+pub mod Kept
+pub mod Seen
 pub mod Examples

@@ -15,13 +15,13 @@ const FEW: usize = 16;
 
 /// An expanded name as the key of a set.
 #[derive(PartialEq, Eq, Hash, Drop)]
-struct NameKey {
-    namespace: Option<String>,
-    local: String,
+pub(crate) struct NameKey {
+    pub(crate) namespace: Option<String>,
+    pub(crate) local: String,
 }
 
 /// A namespace as a part of a key.
-fn space_key(alloc: Global, space: &Option<Text>) -> Result<Option<String>, AllocError>
+pub(crate) fn space_key(alloc: Global, space: &Option<Text>) -> Result<Option<String>, AllocError>
     ensures { IfOk result (λ key. space_of key ≡ space.now) }
 {
     match space {

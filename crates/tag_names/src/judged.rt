@@ -14,9 +14,9 @@ use xs_names::{Text, TextPool};
 #[derive(Drop)]
 pub(crate) struct Space {
     /// The name of the namespace, `None` for the absent one.
-    namespace: Option<Text>,
+    pub(crate) namespace: Option<Text>,
     /// Whether the prefix is not bound.
-    unbound: bool,
+    pub(crate) unbound: bool,
 }
 
 /// A name in a scope, and what stands against it.
@@ -110,7 +110,7 @@ fn element_space(
 }
 
 /// What the prefix of an attribute's name stands for: without one the name is in no namespace.
-fn attribute_space(
+pub(crate) fn attribute_space(
     own: Option<&Prefixes>,
     scope: &Prefixes,
     prefix: Option<&str>,
@@ -126,8 +126,18 @@ fn attribute_space(
     }
 }
 
+/// Whether a prefix other than `xmlns` is not bound.
+pub(crate) fn is_unbound(own: Option<&Prefixes>, scope: &Prefixes, prefix: Option<&str>) -> bool
+    ensures { result ≡ faults.is_unbound (scopes.own_of (option_copied own.entry) ++ scope.now) (option_copied prefix.entry) }
+{
+    match prefix {
+        None => false,
+        Some(prefix) => prefix != "xmlns" && of_prefix(own, scope, prefix).is_none(),
+    }
+}
+
 /// Whether a prefix is `xmlns`.
-fn is_xmlns(prefix: Option<&str>) -> bool
+pub(crate) fn is_xmlns(prefix: Option<&str>) -> bool
     ensures { result ≡ faults.is_xmlns (option_copied prefix.entry) }
 {
     match prefix {

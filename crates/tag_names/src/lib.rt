@@ -6,12 +6,15 @@ mod fault;
 mod judged;
 mod lines;
 mod named;
+mod packed;
 mod parts;
 mod prefixes;
 mod resolve;
+mod seen;
 
 pub use fault::{NameReason, TagFaults};
 pub use lines::{AttributeLine, AttributeLines, Tag};
 pub use named::Named;
+pub(crate) use packed::PackedLines;
 pub use prefixes::Prefixes;
-pub use resolve::JudgedTag;
+pub use resolve::{JudgedTag, TestedTag};

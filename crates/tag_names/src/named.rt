@@ -24,7 +24,7 @@ pub struct Named {
 }
 
 /// Puts what an attribute binds behind the bindings, if it is a binding.
-fn put_binding(
+pub(crate) fn put_binding(
     pool: &mut TextPool,
     bindings: &mut Bindings,
     line: &AttributeLine,

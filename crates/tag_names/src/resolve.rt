@@ -1,13 +1,17 @@
-ghost use Rattle.std.specs.Prelude.{◌≡◌, ◌||◌, [], IfOk};
+ghost use Rattle.std.specs.Prelude.{◌≡◌, ◌||◌, ◌<◌, [], Some, length, IfOk};
 ghost use Rattle.std.specs.List.{list_any};
+ghost use Rattle.tree_rows.specs.declared.limits.TheConstants.{MAX_ATTRIBUTES as most};
 ghost use Rattle.tag_names.specs.Faults as faults;
 ghost use Rattle.tag_names.specs.Resolving as resolving;
 ghost use Rattle.tag_names.specs.Scopes as scopes;
+ghost use Rattle.tag_names.specs.Tags as tags;
 
 use crate::doubles::{repeats_name, repeats_prefix};
-use crate::judged::{judged_attribute, judged_element};
+use crate::judged::{is_unbound, is_xmlns, judged_attribute, judged_element};
+use crate::lines::KeptLines;
 use crate::named::{bindings_in, judged_lines};
-use crate::{NameReason, Named, Prefixes, Tag, TagFaults};
+use crate::parts::parts_of;
+use crate::{AttributeLine, NameReason, Named, PackedLines, Prefixes, Tag, TagFaults};
 use std::alloc::{AllocError, Global};
 use tree_rows::{Attribute, Attributes, Binding, Bindings, Expanded, MAX_ATTRIBUTES};
 use xs_names::{TextPool, XML_NAMESPACE, XMLNS_NAMESPACE};
@@ -16,6 +20,13 @@ use xs_names::{TextPool, XML_NAMESPACE, XMLNS_NAMESPACE};
 #[derive(Drop)]
 pub struct JudgedTag {
     pub named: Named,
+    pub faults: TagFaults,
+}
+
+/// The bindings of a tag, and what stands against its names.
+#[derive(Drop)]
+pub struct TestedTag {
+    pub bindings: Bindings,
     pub faults: TagFaults,
 }
 
@@ -97,6 +108,69 @@ fn judged_alone(
     })
 }
 
+/// What a tag of this name and of these lines says of its element, and what stands against its names.
+fn judged_with(
+    alloc: Global,
+    scope: &Prefixes,
+    pool: &mut TextPool,
+    name: &str,
+    lines: &[AttributeLine],
+) -> Result<JudgedTag, AllocError>
+    ensures { IfOk result (λ judged. judged ≡ resolving.judged scope.now (record { name = name.now; attributes = lines.now })) }
+{
+    if lines.is_empty() {
+        return judged_alone(alloc, scope, pool, name);
+    }
+    let bindings = bindings_in(alloc, pool, lines)?;
+    let own = own_scope(alloc, bindings.as_slice())?;
+    let own = own.as_ref();
+    let element = judged_element(own, scope, pool, name)?;
+    let judged = judged_lines(alloc, own, scope, pool, lines)?;
+    let double = has_double(alloc, bindings.as_slice(), judged.attributes.as_slice())?;
+    let faults = TagFaults {
+        bad: element.bad || judged.bad,
+        reserved: element.reserved || any_reserved(bindings.as_slice()),
+        unbound: element.unbound || judged.unbound,
+        double,
+        many: lines.len() > MAX_ATTRIBUTES,
+    };
+    Ok(JudgedTag {
+        named: Named {
+            name: element.name,
+            bindings,
+            attributes: judged.attributes,
+        },
+        faults,
+    })
+}
+
+/// The bindings of a tag of this name and of these lines, and what stands against its names. No attributes are made.
+fn tested_with(
+    alloc: Global,
+    scope: &Prefixes,
+    name: &str,
+    lines: &PackedLines,
+) -> Result<TestedTag, AllocError>
+    ensures bindings { IfOk result (λ tested. tested.bindings ≡ tags.bindings_in lines.now) }
+    ensures faults { IfOk result (λ tested. tested.faults ≡ resolving.faults_of scope.now (record { name = name.now; attributes = lines.now })) }
+{
+    let mut pool = TextPool::new(alloc);
+    let bindings = lines.bindings(&mut pool)?;
+    let own = own_scope(alloc, bindings.as_slice())?;
+    let own = own.as_ref();
+    let element = parts_of(name);
+    let found = lines.faults(own, scope)?;
+    let double = repeats_prefix(alloc, bindings.as_slice())?;
+    let faults = TagFaults {
+        bad: element.bad || found.bad,
+        reserved: is_xmlns(element.prefix) || any_reserved(bindings.as_slice()),
+        unbound: is_unbound(own, scope, element.prefix) || found.unbound,
+        double: double || found.double,
+        many: lines.len() > MAX_ATTRIBUTES,
+    };
+    Ok(TestedTag { bindings, faults })
+}
+
 impl Tag {
     /// What the tag says of its element, where it stands in this scope, and what stands against its names. Each name is
     /// read once. Namespaces are shared with their bindings, values with the lines, and other texts come from the pool.
@@ -108,31 +182,61 @@ impl Tag {
     ) -> Result<JudgedTag, AllocError>
         ensures { IfOk result (λ judged. judged ≡ resolving.judged scope.now self.now) }
     {
-        let lines = self.attributes.as_slice();
-        if lines.is_empty() {
-            return judged_alone(alloc, scope, pool, self.name.as_str());
+        let name = self.name.as_str();
+        match self.attributes.kept() {
+            KeptLines::Few(lines) => judged_with(alloc, scope, pool, name, lines.as_slice()),
+            KeptLines::Many(packed) => {
+                let lines = packed.unpacked()?;
+                judged_with(alloc, scope, pool, name, lines.as_slice())
+            }
         }
-        let bindings = bindings_in(alloc, pool, lines)?;
-        let own = own_scope(alloc, bindings.as_slice())?;
-        let own = own.as_ref();
-        let element = judged_element(own, scope, pool, self.name.as_str())?;
-        let judged = judged_lines(alloc, own, scope, pool, lines)?;
-        let double = has_double(alloc, bindings.as_slice(), judged.attributes.as_slice())?;
-        let faults = TagFaults {
-            bad: element.bad || judged.bad,
-            reserved: element.reserved || any_reserved(bindings.as_slice()),
-            unbound: element.unbound || judged.unbound,
-            double,
-            many: lines.len() > MAX_ATTRIBUTES,
-        };
-        Ok(JudgedTag {
-            named: Named {
-                name: element.name,
-                bindings,
-                attributes: judged.attributes,
-            },
-            faults,
-        })
+    }
+
+    /// The bindings of the tag, and what stands against its names, where it stands in this scope. Of more lines than an
+    /// element may have no attributes are made.
+    pub fn tested(
+        &self,
+        alloc: Global,
+        scope: &Prefixes,
+        pool: &mut TextPool,
+    ) -> Result<TestedTag, AllocError>
+        ensures bindings { IfOk result (λ tested. tested.bindings ≡ tags.bindings_in self.now.attributes) }
+        ensures faults { IfOk result (λ tested. tested.faults ≡ resolving.faults_of scope.now self.now) }
+    {
+        let name = self.name.as_str();
+        match self.attributes.kept() {
+            KeptLines::Few(lines) => {
+                let JudgedTag { named, faults } = judged_with(
+                    alloc,
+                    scope,
+                    pool,
+                    name,
+                    lines.as_slice(),
+                )?;
+                Ok(TestedTag {
+                    bindings: named.bindings,
+                    faults,
+                })
+            }
+            KeptLines::Many(packed) => tested_with(alloc, scope, name, packed),
+        }
+    }
+
+    /// The first reason why the names of a tag of too many lines are refused, where it stands in this scope.
+    fn refusal(
+        &self,
+        alloc: Global,
+        scope: &Prefixes,
+        pool: &mut TextPool,
+    ) -> Result<NameReason, AllocError>
+        requires { most < length self.now.attributes }
+        ensures { IfOk result (λ reason. faults.name_fault scope.now self.now ≡ Some reason) }
+    {
+        let tested = self.tested(alloc, scope, pool)?;
+        match tested.faults.first() {
+            Some(reason) => Ok(reason),
+            None => Ok(NameReason::TooManyAttributes),
+        }
     }
 
     /// What the tag says of its element, where it stands in this scope, or the first reason why its names are refused.
@@ -148,6 +252,9 @@ impl Tag {
     ) -> Result<Result<Named, NameReason>, AllocError>
         ensures { IfOk result (λ end. end ≡ resolving.resolved scope.now self.now) }
     {
+        if self.attributes.len() > MAX_ATTRIBUTES {
+            return Ok(Err(self.refusal(alloc, scope, pool)?));
+        }
         let JudgedTag { named, faults } = self.judge(alloc, scope, pool)?;
         match faults.first() {
             None => Ok(Ok(named)),

@@ -3,6 +3,7 @@
 ghost use Rattle.std.specs.Prelude.{◌≡◌};
 
 use assess_records::{Attempted, AttrRecords, ElementRecord, Validity, ValueSource};
+use attr_assess::AttrValues;
 use elem_governing::Governing;
 use simple_values::Value;
 use std::alloc::Global;
@@ -25,7 +26,7 @@ pub struct ElementEntry {
     pub value: Option<Value>,
     pub attrs: AttrRecords,
     /// The values of its attributes, where they are valid by simple types.
-    pub attr_values: Listed<Option<Value>>,
+    pub attr_values: AttrValues,
 }
 
 impl ElementEntry {
@@ -74,6 +75,6 @@ pub(crate) fn begun(alloc: Global, number: u32, governing: Governing, name: Name
         },
         value: None,
         attrs: Listed::new(alloc),
-        attr_values: Listed::new(alloc),
+        attr_values: AttrValues::new(alloc),
     }
 }

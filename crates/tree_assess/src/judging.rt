@@ -65,6 +65,7 @@ pub(crate) fn judge(
     let set = AssessSet {
         view,
         tables: &compiled.attr_uses,
+        known: &compiled.known_uses,
         contents: &compiled.contents,
     };
     let judged = local(alloc, &set, &mut compiled.types, governing, shape)?;

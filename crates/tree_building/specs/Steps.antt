@@ -1,8 +1,6 @@
 -- What a step answers.
 use Rattle.std.specs.Prelude.{◌≡◌, ℕ, ◌+◌, List, Bool, true, false, length, Result, Ok, Err, Option, Some, None, if◌then◌else◌}
-use Rattle.tag_names.specs.Resolving.{first_reason}
 use Rattle.tag_names.specs.declared.fault.NameReason.{NameReason}
-use Rattle.tag_names.specs.declared.fault.TagFaults.{TagFaults}
 use Rattle.tag_names.specs.declared.named.Named.{Named}
 use Rattle.tree_rows.specs.declared.row.Row.{Row}
 use Rattle.tree_rows.specs.declared.row.Content.TheVariants as contents
@@ -10,7 +8,6 @@ use Rattle.tree_building.specs.declared.building.Building.{Building}
 use Rattle.tree_building.specs.declared.build.Built.{Built}
 use Rattle.tree_building.specs.declared.pending.Pending.{Pending}
 use Rattle.tree_building.specs.declared.pending.Pending.TheVariants as pending
-use Rattle.tree_building.specs.declared.rules.Rules.{Rules}
 use Rattle.tree_building.specs.declared.fault.Stop.{Stop}
 use Rattle.tree_building.specs.declared.fault.Stop.TheVariants.{Memory, Refused}
 use Rattle.tree_building.specs.declared.fault.TreeFault.{TreeFault}
@@ -29,10 +26,6 @@ Steps old new (Err stop) end = Stops old new stop end
 abbrev pub Ends : {X : Type 0} → Building → Building → Result X TreeFault → Result Building TreeFault → Type 0
 Ends old new (Ok x) end = end ≡ Ok new
 Ends old new (Err fault) end = end ≡ Err fault
-
--- the first reason against the names of a tag, where they are judged
-abbrev pub reason_by : Rules → TagFaults → Option NameReason
-reason_by rules faults = if rules.names then first_reason faults else None
 
 -- the node of an element of which its tag says this
 abbrev pub row_of : Building → Named → Row

@@ -1,6 +1,8 @@
 ghost use Rattle.std.specs.Prelude.{◌≡◌, ◌+◌, [], ◌<◌, ◌^◌, true, false, Ok, IfOk, OnOk};
 ghost use Rattle.tree_building.specs.Building as steps;
-ghost use Rattle.tree_building.specs.Steps.{Steps, Judged, Ends, Finished, holds_chars, reason_by, row_of};
+ghost use Rattle.tree_building.specs.Steps.{Steps, Judged, Ends, Finished, holds_chars, row_of};
+ghost use Rattle.tree_building.specs.Nest.{scope_in};
+ghost use Rattle.tag_names.specs.Tags.{named};
 ghost use Rattle.item_listing.specs.declared.item.Item.TheVariants as items;
 
 use crate::build::Built;
@@ -9,7 +11,7 @@ use crate::rules::{is_past, is_past_below};
 use crate::{Joined, Nest, Pending, Rows, Rules, TreeFault, TreeReason};
 use item_listing::Item;
 use std::alloc::{AllocError, Global};
-use tag_names::{AttributeLine, AttributeLines, JudgedTag, Named, Prefixes, Tag, TagFaults};
+use tag_names::{AttributeLine, AttributeLines, Named, Prefixes, Tag};
 use tree_rows::{Attributes, Bindings, Content, Row};
 use xs_names::{Text, is_white_space};
 
@@ -48,19 +50,28 @@ fn depth_below(elements: usize) -> Result<u32, AllocError>
     Ok(elements as u32 + 1)
 }
 
-/// Refuses the names of the start tag of this item, if they are to be judged.
-fn refuse_names(rules: Rules, faults: TagFaults, item: u32) -> Result<(), Stop>
-    ensures { Judged result item (reason_by rules faults) }
+/// What the start tag of this item says of its element. It is refused for its names, if they are to be judged.
+fn named_by(
+    rules: Rules,
+    nest: &mut Nest,
+    alloc: Global,
+    tag: &Tag,
+    item: u32,
+) -> Result<Named, Stop>
+    ensures judged { Judged result item (steps.fault_of rules (scope_in nest.old) tag.now) }
+    ensures says { IfOk result (λ says. says ≡ named (scope_in nest.old) tag.now) }
+    ensures same { nest.new ≡ nest.old }
 {
-    if rules.names
-        && let Some(reason) = faults.first()
-    {
-        return Err(Stop::Refused(TreeFault {
-            item,
-            reason: TreeReason::Name(reason),
-        }));
+    if rules.names {
+        return match nest.resolve(alloc, tag)? {
+            Ok(named) => Ok(named),
+            Err(reason) => Err(Stop::Refused(TreeFault {
+                item,
+                reason: TreeReason::Name(reason),
+            })),
+        };
     }
-    Ok(())
+    Ok(nest.judge(alloc, tag)?.named)
 }
 
 impl Building {
@@ -147,8 +158,7 @@ impl Building {
             Pending::Nothing => Ok(()),
             Pending::Chars(_) => Ok(()),
             Pending::Start(tag, item) => {
-                let JudgedTag { named, faults } = self.nest.judge(alloc, tag)?;
-                refuse_names(self.rules, faults, *item)?;
+                let named = named_by(self.rules, &mut self.nest, alloc, tag, *item)?;
                 let name = tag.name.try_clone()?;
                 self.put_element(name, named)
             }

@@ -1,11 +1,11 @@
 ghost use Rattle.std.specs.Prelude.{◌≡◌, [], ◌++◌, length, IfOk, OnOk, OnErr};
 ghost use Rattle.std.specs.Option.{option_copied};
-ghost use Rattle.tag_names.specs.Resolving.{judged};
+ghost use Rattle.tag_names.specs.Resolving.{judged, resolved};
 ghost use Rattle.tree_building.specs.Nest as nests;
 
 use std::alloc::{AllocError, Global};
 use std::marker::Model;
-use tag_names::{JudgedTag, Prefixes, Tag};
+use tag_names::{JudgedTag, NameReason, Named, Prefixes, Tag};
 use tree_rows::Binding;
 use xs_names::{Text, TextPool};
 
@@ -68,6 +68,18 @@ impl Nest {
         ensures same { self.new ≡ self.old }
     {
         tag.judge(alloc, &self.prefixes, &mut self.pool)
+    }
+
+    /// What a start tag that comes next says of its element, or the first reason why its names are refused.
+    pub fn resolve(
+        &mut self,
+        alloc: Global,
+        tag: &Tag,
+    ) -> Result<Result<Named, NameReason>, AllocError>
+        ensures end { IfOk result (λ end. end ≡ resolved (nests.scope_in self.old) tag.now) }
+        ensures same { self.new ≡ self.old }
+    {
+        tag.resolve(alloc, &self.prefixes, &mut self.pool)
     }
 
     /// Whether the innermost element has this name.

@@ -14,8 +14,8 @@ use Rattle.tag_names.specs.Tags.{bindings_in}
 use Rattle.tag_names.specs.declared.lines.AttributeLine.{AttributeLine}
 use Rattle.tag_names.specs.declared.lines.Tag.{Tag}
 use Rattle.tree_edits.specs.Blocks.{Placed, lines_of, tags_in, has_bad_name, has_unbound, uses_reserved, has_too_many, has_double}
-use Rattle.tag_names.specs.Resolving.{judged as tag_judged}
-use Rattle.tag_names.specs.declared.resolve.JudgedTag.{JudgedTag}
+use Rattle.tag_names.specs.Resolving.{faults_of}
+use Rattle.tag_names.specs.declared.fault.TagFaults.{TagFaults}
 use Rattle.tree_edits.specs.Walks.{scopes_around, joined, with_faults}
 use Rattle.tree_edits.specs.declared.names.BlockNames.{BlockNames}
 
@@ -70,9 +70,9 @@ pub joined_none : (names : BlockNames) → names ≡ joined names []
 joined_none names = sym (same_names _ _ _ _ _ _ _ _ _ _ (or_false names.bad) (or_false names.unbound) (or_false names.reserved) (or_false names.many) (or_false names.double))
 
 -- one tag more, which was judged in its scope
-pub joined_one : (names : BlockNames) (placed : Placed) (says : JudgedTag) → says ≡ tag_judged placed.scope placed.tag → with_faults names says.faults ≡ joined names (placed ∷ [])
-joined_one names placed says is =
-    ap (λ (s : JudgedTag). with_faults names s.faults) is
+pub joined_one : (names : BlockNames) (placed : Placed) (faults : TagFaults) → faults ≡ faults_of placed.scope placed.tag → with_faults names faults ≡ joined names (placed ∷ [])
+joined_one names placed faults is =
+    ap (with_faults names) is
     ∙ same_names _ _ _ _ _ _ _ _ _ _ (one_or names.bad (has_bad_name placed)) (one_or names.unbound (has_unbound placed)) (one_or names.reserved (uses_reserved placed)) (one_or names.many (has_too_many placed))
     (one_or names.double (has_double placed))
 

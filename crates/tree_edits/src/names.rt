@@ -8,7 +8,7 @@ use crate::EditError;
 use crate::size::BlockSize;
 use item_listing::Item;
 use std::alloc::{AllocError, Global};
-use tag_names::{AttributeLine, AttributeLines, JudgedTag, Prefixes, Tag, TagFaults};
+use tag_names::{AttributeLine, AttributeLines, Prefixes, Tag, TagFaults, TestedTag};
 use xs_names::{Text, TextPool};
 
 /// What stands against the names of a block: each of the faults that some of its tags has.
@@ -150,10 +150,10 @@ impl Walk {
             name: name.try_clone()?,
             attributes: lines_of(self.alloc, rest)?,
         };
-        let JudgedTag { named, faults } = tag.judge(self.alloc, &self.scope, &mut self.pool)?;
+        let TestedTag { bindings, faults } = tag.tested(self.alloc, &self.scope, &mut self.pool)?;
         self.names = self.names.and_tag(faults);
         self.sizes.push(self.scope.len())?;
-        self.scope.bind_all(named.bindings.as_slice())?;
+        self.scope.bind_all(bindings.as_slice())?;
         Ok(())
     }
 

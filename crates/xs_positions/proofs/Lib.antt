@@ -12,6 +12,7 @@ pub mod Worded
 pub mod Repeating
 pub mod Parting
 pub mod Steps
+pub mod Blocks
 pub mod Tasks
 pub mod Listed
 pub mod Exchange

@@ -55,6 +55,19 @@ pub has_word-sequence_of : (ts : List Tree) (t : Tree) → has_word (sequence_of
 has_word-sequence_of [] t = and-true (has_word t)
 has_word-sequence_of (s ∷ ts) t = ap (λ b. has_word s && b) (has_word-sequence_of ts t) ∙ and_assoc (has_word s) (has_word (sequence_of ts)) (has_word t)
 
+-- some parts and those after them
+pub size-append : (ts us : List Tree) → size (sequence_of (ts ++ us)) ≡ size (sequence_of ts) + size (sequence_of us)
+size-append [] us = omega arith
+size-append (s ∷ ts) us = let e = size-append ts us in omega arith
+
+pub has_empty-append : (ts us : List Tree) → has_empty (sequence_of (ts ++ us)) ≡ (has_empty (sequence_of ts) && has_empty (sequence_of us))
+has_empty-append [] us = refl
+has_empty-append (s ∷ ts) us = ap (λ b. has_empty s && b) (has_empty-append ts us) ∙ and_assoc (has_empty s) (has_empty (sequence_of ts)) (has_empty (sequence_of us))
+
+pub has_word-append : (ts us : List Tree) → has_word (sequence_of (ts ++ us)) ≡ (has_word (sequence_of ts) && has_word (sequence_of us))
+has_word-append [] us = refl
+has_word-append (s ∷ ts) us = ap (λ b. has_word s && b) (has_word-append ts us) ∙ and_assoc (has_word s) (has_word (sequence_of ts)) (has_word (sequence_of us))
+
 pub has_empty-choice_of : (ts : List Tree) (t : Tree) → has_empty (choice_of (ts ++ t ∷ [])) ≡ (has_empty (choice_of ts) || has_empty t)
 has_empty-choice_of [] t = or-false (has_empty t)
 has_empty-choice_of (s ∷ ts) t = ap (λ b. has_empty s || b) (has_empty-choice_of ts t) ∙ or_assoc (has_empty s) (has_empty (choice_of ts)) (has_empty t)

@@ -18,8 +18,8 @@ use Rattle.xs_positions.proofs.Rounds.{rounds_last, last_round, some_rounds, Plu
 use Rattle.xs_positions.proofs.Rising.{rises-nil, rises-append, Contains-none, Contains-both}
 use Rattle.xs_positions.proofs.Parting.{parts_length, part_at, copy_part, copies_count}
 use Rattle.xs_positions.proofs.Describing.{Describes-same, Describes-none, Describes-or, Describes-join, Describes-plus, Or, begins_passes, ends_passes}
-use Rattle.xs_positions.proofs.Measuring.{size-sequence_of, size-choice_of, has_empty-sequence_of, has_empty-choice_of, has_word-sequence_of}
-use Rattle.xs_positions.proofs.Worded.{empty_is, word_is, words_within, passes_at, sequence_words, choice_words}
+use Rattle.xs_positions.proofs.Measuring.{size-choice_of, has_empty-choice_of}
+use Rattle.xs_positions.proofs.Worded.{empty_is, word_is, words_within, passes_at, choice_words}
 use Rattle.xs_positions.proofs.Repeating.{copy_words, rounds_empty, ends_go_on, ends_last, ends_before, ends_more, more_ends, Describes-within, Describes-once, Describes-unbounded}
 
 -- ---- what the sets of a part say of its vectors
@@ -35,7 +35,7 @@ module _ (L : List ℕ → Type 0) (base n : ℕ) (part : Part) (d : Describes L
       (w.0, let u : p < base + n = w.1 in omega arith)
 
 -- ---- a front of the parts
-has_word_front : (ts : List Tree) (k : ℕ) → IsTrue (has_word (sequence_of ts)) → IsTrue (has_word (sequence_of (take k ts)))
+pub has_word_front : (ts : List Tree) (k : ℕ) → IsTrue (has_word (sequence_of ts)) → IsTrue (has_word (sequence_of (take k ts)))
 has_word_front ts zero h = refl
 has_word_front [] (suc k) h = refl
 has_word_front (t ∷ ts) (suc k) h =
@@ -49,12 +49,6 @@ choice_size (t ∷ ts) = let e = choice_size ts in omega arith
 
 module _ (ts : List Tree) (i : ℕ) (t : Tree) (taken : take (i + 1) ts ≡ take i ts ++ t ∷ []) (base : ℕ) (whole next new : Part)
     (dn : IsPartOf t (base + size (sequence_of (take i ts))) next) where
-  next_words : IsTrue (has_word (sequence_of ts)) → (IsTrue (has_word (sequence_of (take i ts)))) × (IsTrue (has_word t))
-  next_words h =
-      let a = has_word_front ts (i + 1) h in
-      let e = ap (λ us. has_word (sequence_of us)) taken ∙ has_word-sequence_of (take i ts) t in
-      and_parts (has_word (sequence_of (take i ts))) (has_word t) (sym e ∙ a)
-
   pub choice_next : IsPartOf (choice_of (take i ts)) base whole → sets_of new ≡ beside (sets_of whole) (sets_of next) → new.nullable ≡ (whole.nullable || next.nullable) →
       IsPartOf (choice_of (take (i + 1) ts)) base new
   choice_next dw made either = record {
@@ -67,20 +61,22 @@ module _ (ts : List Tree) (i : ℕ) (t : Tree) (taken : take (i + 1) ts ≡ take
     nullable = either ∙ (rw (dw.nullable, dn.nullable, taken) (sym (has_empty-choice_of (take i ts) t)));
   }
 
-  pub sequence_next : IsPartOf (sequence_of (take i ts)) base whole → IsTrue (has_word (sequence_of ts)) →
-      IsJoined base (sets_of whole) whole.nullable (sets_of next) next.nullable (sets_of new) → new.nullable ≡ (whole.nullable && next.nullable) →
-      IsPartOf (sequence_of (take (i + 1) ts)) base new
-  sequence_next dw words made both_empty = record {
+-- ---- the words of one expression, each with a word of another behind it
+module _ (s t u : Tree) (base : ℕ) (whole next new : Part)
+    (words : (w : List ℕ) → IsWord u base w ↔ Joins (IsWord s base) (IsWord t (base + size s)) w)
+    (count : size u ≡ size s + size t) (empty : has_empty u ≡ (has_empty s && has_empty t))
+    (dw : IsPartOf s base whole) (dn : IsPartOf t (base + size s) next) where
+  pub joined_next : IsTrue (has_word s) → IsTrue (has_word t) → IsJoined base (sets_of whole) whole.nullable (sets_of next) next.nullable (sets_of new) →
+      new.nullable ≡ (whole.nullable && next.nullable) → IsPartOf u base new
+  joined_next some other made both_empty = record {
     sets =
-        let S : List Tree = take i ts in
-        let w2 = next_words words in
-        let both = Describes-join (IsWord (sequence_of S) base) (IsWord t (base + size (sequence_of S))) base (size (sequence_of S)) (size t) (sets_of whole) (sets_of next) dw.sets dn.sets
-        whole.nullable next.nullable (sets_of new) made (rw dw.nullable (empty_is (sequence_of S) base)) (rw dn.nullable (empty_is t (base + size (sequence_of S))))
-        ((word_is (sequence_of S) base).0 w2.0) ((word_is t (base + size (sequence_of S))).0 w2.1) in
-        rw (taken, size-sequence_of S t)
-        (Describes-same (Joins (IsWord (sequence_of S) base) (IsWord t (base + size (sequence_of S)))) (IsWord (sequence_of (S ++ t ∷ [])) base) base (size (sequence_of S) + size t) (sets_of new)
-        (λ w. (sequence_words S t base w).1) (λ w. (sequence_words S t base w).0) both);
-    nullable = both_empty ∙ (rw (dw.nullable, dn.nullable, taken) (sym (has_empty-sequence_of (take i ts) t)));
+        let both = Describes-join (IsWord s base) (IsWord t (base + size s)) base (size s) (size t) (sets_of whole) (sets_of next) dw.sets dn.sets
+        whole.nullable next.nullable (sets_of new) made (rw dw.nullable (empty_is s base)) (rw dn.nullable (empty_is t (base + size s)))
+        ((word_is s base).0 some) ((word_is t (base + size s)).0 other) in
+        rw count
+        (Describes-same (Joins (IsWord s base) (IsWord t (base + size s))) (IsWord u base) base (size s + size t) (sets_of new)
+        (λ w. (words w).1) (λ w. (words w).0) both);
+    nullable = both_empty ∙ (rw (dw.nullable, dn.nullable) (sym empty));
   }
 
 -- ---- no part, no copy
@@ -169,6 +165,10 @@ pub if_ok : {T E : Type 0} (P Q : T → Type 0) (r : Result T E) → ((x : T) �
 if_ok P Q (Ok x) f h = f x h
 if_ok P Q (Err e) f h = h
 
+pub if_both : {T E : Type 0} (P Q R : T → Type 0) (r : Result T E) → ((x : T) → P x → Q x → R x) → IfOk r P → IfOk r Q → IfOk r R
+if_both P Q R (Ok x) f g h = f x g h
+if_both P Q R (Err e) f g h = g
+
 -- ---- positions that no word goes through
 pub unused_sets : (t : Tree) (base : ℕ) (m : Measure) (part : Part) → m ≡ measure_of t → size t < 2 ^ 32 → ((p : ℕ) → Passes (IsWord t base) p → ⊥) →
     sets_of part ≡ unused m.size → Describes (IsWord t base) base (size t) (sets_of part)
@@ -236,11 +236,6 @@ empty_choice base part e n = record { sets = rw e (nothing_sets (choice_of []) b
 module _ (base : ℕ) (ts : List Tree) (parts : List Part) (are : AreParts base ts parts) (i : ℕ) (whole next new : Part) (l : i < length parts) (is : next ≡ get_or parts i next) where
   taken_part : take (i + 1) ts ≡ take i ts ++ get_or ts i nothing ∷ []
   taken_part = take_more ts i nothing (let e = parts_length base ts parts are in omega arith)
-
-  pub join_more : IsTrue (has_word (sequence_of ts)) → IsPartOf (sequence_of (take i ts)) base whole →
-      IsJoined base (sets_of whole) whole.nullable (sets_of next) next.nullable (sets_of new) → new.nullable ≡ (whole.nullable && next.nullable) →
-      IsPartOf (sequence_of (take (i + 1) ts)) base new
-  join_more words dw made both = sequence_next ts i (get_or ts i nothing) taken_part base whole next new (part_at base ts parts i next are l is) dw words made both
 
   pub choose_more : IsPartOf (choice_of (take i ts)) base whole → sets_of new ≡ beside (sets_of whole) (sets_of next) → new.nullable ≡ (whole.nullable || next.nullable) →
       IsPartOf (choice_of (take (i + 1) ts)) base new

@@ -179,6 +179,29 @@ sequence_words (s ∷ ts) t b w =
       (λ h. shorter s (sequence_of ts) t b ((b + size s) + size (sequence_of ts)) w (sequence_of (ts ++ t ∷ [])) rest h.3.0 h.3.1 h.0 h.1 h.2 h.3.2 h.3.3 h.3.4 h.4),
     )
 
+-- the same of some parts and those after them
+pub append_words : (ts us : List Tree) (b : ℕ) (w : List ℕ) →
+    IsWord (sequence_of (ts ++ us)) b w ↔ Joins (IsWord (sequence_of ts) b) (IsWord (sequence_of us) (b + size (sequence_of ts))) w
+append_words [] us b w = (λ h. none_to h, λ h. none_from h.0 h.1 h.2 h.3 h.4)
+  where
+    z : b + 0 ≡ b
+    z = omega arith
+
+    none_to : IsWord (sequence_of us) b w → Joins (IsWord empty b) (IsWord (sequence_of us) (b + 0)) w
+    none_to h = ([], w, refl, refl, rw z h)
+
+    none_from : (f g : List ℕ) → w ≡ f ++ g → f ≡ [] → IsWord (sequence_of us) (b + 0) g → IsWord (sequence_of us) b w
+    none_from f g e d h = let k : w ≡ g = e ∙ ap (λ v. v ++ g) d in rw k (rw z at h)
+append_words (s ∷ ts) us b w =
+    let z : (b + size s) + size (sequence_of ts) ≡ b + (size s + size (sequence_of ts)) = omega arith in
+    let rest : (v : List ℕ) → Joins (IsWord (sequence_of ts) (b + size s)) (IsWord (sequence_of us) ((b + size s) + size (sequence_of ts))) v → IsWord (sequence_of (ts ++ us)) (b + size s) v =
+    λ v g. (append_words ts us (b + size s) v).1 g in
+    rw (← z) (
+      (λ h. let i = (append_words ts us (b + size s) h.1).0 h.4 in
+          longer s (sequence_of ts) (sequence_of us) b ((b + size s) + size (sequence_of ts)) w (sequence_of (ts ++ us)) rest h.0 h.1 i.0 i.1 h.2 i.2 h.3 i.3 i.4),
+      (λ h. shorter s (sequence_of ts) (sequence_of us) b ((b + size s) + size (sequence_of ts)) w (sequence_of (ts ++ us)) rest h.3.0 h.3.1 h.0 h.1 h.2 h.3.2 h.3.3 h.3.4 h.4),
+    )
+
 pub choice_words : (ts : List Tree) (t : Tree) (b : ℕ) (w : List ℕ) →
     IsWord (choice_of (ts ++ t ∷ [])) b w ↔ (IsWord (choice_of ts) b w ⊎ IsWord t (b + size (choice_of ts)) w)
 choice_words [] t b w =

@@ -16,6 +16,9 @@ use crate::measures::{Measure, copies};
 use crate::sets::Part;
 use std::alloc::{AllocError, Global};
 
+/// How many positions a block of parts in order has, but for its last part.
+const BLOCK: usize = 64;
+
 /// What is still to be done.
 #[derive(Clone, Copy)]
 enum Task {
@@ -184,16 +187,23 @@ fn build_part(
     }
 }
 
-/// A word of each part, in order.
+/// A word of each part, in order. The parts are joined in blocks, and a block with what comes before it, so that what
+/// follows many positions comes to them by many at once.
 fn join_all(alloc: Global, base: u32, parts: Vec<Part>) -> Result<Part, AllocError>
-    requires { (trees : List Tree) × AreParts base trees parts.items × IsTrue (has_word (sequence_of trees)) }
+    requires { (trees : List Tree) × AreParts base trees parts.items × IsTrue (has_word (sequence_of trees)) × (base + size (sequence_of trees) < 2 ^ 32) }
     ensures { (trees : List Tree) → AreParts base trees parts.items → IsTrue (has_word (sequence_of trees)) → IfOk result (IsPartOf (sequence_of trees) base) }
 {
     let mut whole = Part::unused(alloc, 0, true)?;
+    let mut block = Part::unused(alloc, 0, true)?;
     for part in parts {
-        whole = whole.then(base, part)?;
+        let start = base + whole.len() as u32;
+        block = block.then(start, part)?;
+        if block.len() >= BLOCK {
+            whole = whole.then(base, block)?;
+            block = Part::unused(alloc, 0, true)?;
+        }
     }
-    Ok(whole)
+    whole.then(base, block)
 }
 
 /// A word of one of the parts.

@@ -1,16 +1,16 @@
 -- The sets of positions lie below the count, and sets along a list.
-use Rattle.std.proofs.Common.{◌≡◌, ℕ, zero, suc, ◌+◌, ◌<◌, ◌↔◌, ◌⊎◌, ◌≤◌, Bool, true, false, ◌||◌, List, [], ◌∷◌, ◌++◌, length, get_or, take, refl, sym, ◌∙◌, inl, inr, append_assoc, arith}
+use Rattle.std.proofs.Common.{◌≡◌, ℕ, zero, suc, ◌+◌, ◌<◌, ◌↔◌, ◌⊎◌, ◌≤◌, Bool, true, List, [], ◌∷◌, ◌++◌, length, get_or, set, take, refl, sym, ◌∙◌, inl, inr, append_assoc, arith}
 use Rattle.std.specs.Prelude.{Contains, All, IsTrue, Option, None, Some, IfSome}
 use Rattle.xs_positions.specs.Tree.{Tree}
 use Rattle.xs_positions.specs.PositionWords.{IsWord, Passes}
 use Rattle.xs_positions.specs.Sets.{row}
 use Rattle.xs_positions.specs.Positions.{Table, ArePositionsOf}
 use Rattle.std.proofs.lemmas.List.{take_all}
-use Rattle.std.proofs.lemmas.Bool.{or_cases, or_left, or_right}
 use Rattle.xs_regex.specs.Sets.{Has}
-use Rattle.xs_regex.specs.Program.{AreWaiting}
+use Rattle.xs_regex.specs.Program.{takes, ArePut}
+use Rattle.xs_regex.specs.declared.program.Program.{Program}
 use Rattle.xs_regex.specs.Listed.{IsListed}
-use Rattle.xs_regex.proofs.SetLaws.{has_within, taken_cases, taken_from, none_contained}
+use Rattle.xs_regex.proofs.SetLaws.{has_within, has_set, set_has, taken_cases, taken_from, none_contained}
 
 pub same_at : (xs : List ℕ) (k d e : ℕ) → k < length xs → get_or xs k e ≡ get_or xs k d
 same_at [] k d e l = absurd (omega arith)
@@ -53,12 +53,6 @@ pub more_some : (P Q : ℕ → Type 0) (xs : List ℕ) (i x : ℕ) → i < lengt
 more_some P Q xs i x l e (inl (p, c, a, b)) = (p, taken_from xs i x p l e (inl c), a, b)
 more_some P Q xs i x l e (inr (a, b)) = (x, taken_from xs i x x l e (inr refl), a, b)
 
-pub or_after : (a b c : Bool) → a ≡ false → c ≡ b → c ≡ (a || b)
-or_after a b c e f = rw e f
-
-pub or_before : (a b c : Bool) → a ≡ true → c ≡ true → c ≡ (a || b)
-or_before a b c e f = rw e f
-
 -- one turn along a list: what held of the numbers before, and what this number adds
 pub turn : (P Q : ℕ → Type 0) (xs : List ℕ) (i x : ℕ) (Before After : Type 0) → i < length xs → x ≡ get_or xs i x →
     (After ↔ (Before ⊎ (P x × Q x))) → (Before ↔ SomeIn (take i xs) P Q) → (After ↔ SomeIn (take (i + 1) xs) P Q)
@@ -66,14 +60,6 @@ turn P Q xs i x Before After l e a b = (
   (λ h. more_some P Q xs i x l e (elim (a.0 h) [ inl k ↦ inl (b.0 k) | inr k ↦ inr k ])),
   (λ h. a.1 (elim (some_more P Q xs i x l e h) [ inl k ↦ inl (b.1 k) | inr k ↦ inr k ])),
 )
-
-pub turn_test : (P Q : ℕ → Type 0) (xs : List ℕ) (i x : ℕ) (ends before after : Bool) → i < length xs → x ≡ get_or xs i x →
-    after ≡ (ends || before) → (IsTrue ends ↔ (P x × Q x)) → (IsTrue before ↔ SomeIn (take i xs) P Q) → (IsTrue after ↔ SomeIn (take (i + 1) xs) P Q)
-turn_test P Q xs i x ends before after l e o a b =
-    turn P Q xs i x (IsTrue before) (IsTrue after) l e (
-      (λ h. elim (or_cases ends before (sym o ∙ h)) [ inl k ↦ inr (a.0 k) | inr k ↦ inl k ]),
-      (λ h. o ∙ (elim h [ inl k ↦ or_right ends before k | inr k ↦ or_left ends before (a.1 k) ])),
-    ) b
 
 -- at the end of the list of a set
 pub after_turns : (P Q : ℕ → Type 0) (xs : List ℕ) (i : ℕ) (set : List Bool) (Told : Type 0) → length xs ≤ i →
@@ -88,11 +74,36 @@ after_turns P Q xs i set Told l m t =
 pub members_within : (flags : List Bool) (members : List ℕ) (capacity : ℕ) → IsListed flags members capacity → All (λ p. p < length flags) members
 members_within flags members capacity h = all_contained (λ p. p < length flags) members (λ p k. has_within flags p ((h.listed p).0 k))
 
--- ---- the position that is done
-pub done_within : (table : Table) (set : List Bool) (done : Option ℕ) → IfSome done (AreWaiting table set) → IfSome done (λ q. q < length table.symbols)
-done_within table set None h = h
-done_within table set (Some q) h = h.0
+-- ---- numbers of a list that are put into a set where a fact holds of them
+pub put_one : (T : ℕ → Type 0) (flags flags' : List Bool) (x : ℕ) → x < length flags → flags' ≡ set flags x true → T x →
+    (q : ℕ) → Has flags' q ↔ (Has flags q ⊎ ((q ≡ x) × T q))
+put_one T flags flags' x l e t q = rw e (
+  (λ h. elim (has_set flags x q l h) [ inl k ↦ inl k | inr k ↦ inr (k, rw k t) ]),
+  (λ h. set_has flags x q l (elim h [ inl k ↦ inl k | inr k ↦ inr k.0 ])),
+)
 
-pub wait_already : (table : Table) (set : List Bool) (waited : Option ℕ) (p q : ℕ) → IfSome waited (AreWaiting table set) → waited ≡ Some q → row table.follow q ≡ row table.follow p →
-    (r : ℕ) → Contains (row table.follow p) r → Has set r
-wait_already table set waited p q h e same r c = let w : AreWaiting table set q = rw e at h in w.1 r (rw same c)
+pub put_none : (T : ℕ → Type 0) (flags flags' : List Bool) (x : ℕ) → flags' ≡ flags → (T x → ⊥) → (q : ℕ) → Has flags' q ↔ (Has flags q ⊎ ((q ≡ x) × T q))
+put_none T flags flags' x e n q = rw e ((λ h. inl h), elim [ inl h ↦ h | inr h ↦ absurd (n (rw h.0 at h.1)) ])
+
+pub put_more : (T : ℕ → Type 0) (old was now : List Bool) (xs : List ℕ) (i x : ℕ) → i < length xs → x ≡ get_or xs i x →
+    ((q : ℕ) → Has now q ↔ (Has was q ⊎ ((q ≡ x) × T q))) → ((q : ℕ) → Has was q ↔ (Has old q ⊎ (Contains (take i xs) q × T q))) →
+    (q : ℕ) → Has now q ↔ (Has old q ⊎ (Contains (take (i + 1) xs) q × T q))
+put_more T old was now xs i x l e one before q = (
+  (λ h. elim ((one q).0 h) [
+    | inl k ↦ elim ((before q).0 k) [ inl o ↦ inl o | inr o ↦ inr (taken_from xs i x q l e (inl o.0), o.1) ]
+    | inr k ↦ inr (taken_from xs i x q l e (inr k.0), k.1)
+  ]),
+  (λ h. (one q).1 (elim h [
+    | inl o ↦ inl ((before q).1 (inl o))
+    | inr o ↦ elim (taken_cases xs i x q l e o.0) [ inl a ↦ inl ((before q).1 (inr (a, o.1))) | inr a ↦ inr (a, o.1) ]
+  ])),
+)
+
+-- ---- the position that is done
+pub done_within : (program : Program) (set : List Bool) (c : ℕ) (done : Option ℕ) → IfSome done (ArePut program set c) → IfSome done (λ q. q < length program.positions.symbols)
+done_within program set c None h = h
+done_within program set c (Some q) h = h.0
+
+pub put_already : (program : Program) (set : List Bool) (c : ℕ) (done : Option ℕ) (p q : ℕ) → IfSome done (ArePut program set c) → done ≡ Some q →
+    row program.positions.follow q ≡ row program.positions.follow p → (r : ℕ) → Contains (row program.positions.follow p) r → IsTrue (takes program r c) → Has set r
+put_already program set c done p q h e same r k t = let w : ArePut program set c q = rw e at h in w.1 r (rw same k) t

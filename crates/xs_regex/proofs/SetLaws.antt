@@ -125,6 +125,11 @@ taken_from xs i x y l e h =
       | inr b ↦ Contains-append_right (take i xs) (x ∷ []) y (one_contains x y b)
     ])
 
+pub flag_at : (flags : List Bool) (p : ℕ) (b : Bool) → p < length flags → b ≡ get_or flags p b → get_or flags p false ≡ b
+flag_at [] p b l e = absurd (omega arith)
+flag_at (flag ∷ flags) zero b l e = sym e
+flag_at (flag ∷ flags) (suc p) b l e = flag_at flags p b (omega arith) e
+
 pub at_false : (flags : List Bool) (p : ℕ) (b : Bool) → b ≡ get_or flags p b → b ≡ false → get_or flags p false ≡ false
 at_false flags p b e f = ap (λ x. get_or flags p x) (sym f) ∙ (sym e ∙ f)
 

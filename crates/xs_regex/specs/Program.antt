@@ -1,5 +1,5 @@
 -- The positions of a term and the classes that they take.
-use Rattle.std.specs.Prelude.{◌≡◌, ℕ, ◌<◌, ◌↔◌, Bool, IsTrue, List, length, slice_index, Contains}
+use Rattle.std.specs.Prelude.{◌≡◌, ℕ, ◌<◌, ◌↔◌, Bool, true, false, IsTrue, List, length, slice_index, Contains}
 use Rattle.xs_positions.specs.Nodes.{tree_at}
 use Rattle.xs_positions.specs.Positions.{Table, ArePositionsOf}
 use Rattle.xs_positions.specs.Sets.{row}
@@ -20,13 +20,21 @@ takes_by classes table p c = has (class_at classes (slice_index table.symbols p)
 abbrev pub takes : Program → ℕ → ℕ → Bool
 takes program p c = takes_by (classes_of program.terms) program.positions p c
 
--- some position of the set takes the character, and the fact holds of it
-abbrev pub SomeTakes : Program → List Bool → ℕ → (ℕ → Type 0) → Type 0
-SomeTakes program set c Fact = (p : ℕ) × Has set p × IsTrue (takes program p c) × Fact p
+-- The positions that wait for a character: before the first one those that begin a word, and then those that follow a live
+-- position, which is one that took the character before.
+abbrev pub Waits : Table → List Bool → Bool → ℕ → Type 0
+Waits table live false q = Contains table.first q
+Waits table live true q = (p : ℕ) × Has live p × Contains (row table.follow p) q
 
--- the positions that follow one are all in the set
-abbrev pub AreWaiting : Table → List Bool → ℕ → Type 0
-AreWaiting table set p = (p < length table.symbols) × ((q : ℕ) → Contains (row table.follow p) q → Has set q)
+-- what was read is a word's text: nothing, where the empty word is one, or a live position ends a word
+abbrev pub IsRead : Table → List Bool → Bool → Type 0
+IsRead table live false = IsTrue table.nullable
+IsRead table live true = (p : ℕ) × Has live p × Contains table.last p
+
+-- the positions that follow one and take the character are all in the set
+abbrev pub ArePut : Program → List Bool → ℕ → ℕ → Type 0
+ArePut program set c p =
+    (p < length program.positions.symbols) × ((q : ℕ) → Contains (row program.positions.follow p) q → IsTrue (takes program q c) → Has set q)
 
 -- the positions are those of the term, and the marks are those of the positions that end a word
 pub record IsProgram (program : Program) : Type 0 where

@@ -10,5 +10,5 @@ inside_expression pattern = expression_of pattern.program.value
 -- the sets have a flag for each position
 pub record IsReady (pattern : Inside) : Type 0 where
   pub program : IsProgram pattern.program.value
-  pub waiting : length pattern.waiting ≡ length pattern.program.value.positions.symbols
+  pub live : length pattern.live ≡ length pattern.program.value.positions.symbols
   pub next : length pattern.next ≡ length pattern.program.value.positions.symbols

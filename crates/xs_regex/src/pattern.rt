@@ -21,8 +21,8 @@ use std::rc::Rc;
 pub struct Pattern {
     /// Shared by the copies of the pattern.
     program: Rc<Program>,
-    /// The positions that wait for the next character.
-    waiting: PositionSet,
+    /// The positions that took the last character.
+    live: PositionSet,
     next: PositionSet,
 }
 
@@ -81,7 +81,7 @@ impl Pattern {
         let count = program.len();
         Ok(Ok(Pattern {
             program: Rc::new(alloc, program)?,
-            waiting: PositionSet::new(alloc, count)?,
+            live: PositionSet::new(alloc, count)?,
             next: PositionSet::new(alloc, count)?,
         }))
     }
@@ -96,7 +96,7 @@ impl Pattern {
         let count = self.program.len();
         Ok(Pattern {
             program: self.program.clone()?,
-            waiting: PositionSet::new(alloc, count)?,
+            live: PositionSet::new(alloc, count)?,
             next: PositionSet::new(alloc, count)?,
         })
     }
@@ -106,6 +106,6 @@ impl Pattern {
         ensures answer { IsTrue result ↔ Matches (regex self.old) (chars text.now) }
         ensures same { self.new ≡ self.old }
     {
-        self.program.run(&mut self.waiting, &mut self.next, text)
+        self.program.run(&mut self.live, &mut self.next, text)
     }
 }

@@ -9,10 +9,10 @@ ghost use Rattle.pattern_syntax.specs.Terms.{regexes_of, classes_of, trees_of};
 ghost use Rattle.xs_regex.specs.Sets.{Has};
 ghost use Rattle.xs_positions.specs.Expressions.{size};
 ghost use Rattle.xs_regex.specs.Expression.{regex};
-ghost use Rattle.xs_regex.specs.Program.{expression_of, takes, SomeTakes, AreWaiting, IsProgram};
+ghost use Rattle.xs_regex.specs.Program.{expression_of, takes, Waits, IsRead, ArePut, IsProgram};
 
 use crate::set::PositionSet;
-use pattern_syntax::Terms;
+use pattern_syntax::{CharClass, ClassItem, Terms};
 use std::alloc::{AllocError, Global};
 use std::mem;
 use xs_positions::{ExprId, Positions, PositionsError, find_positions};
@@ -63,81 +63,94 @@ impl Program {
     }
 
     /// Whether the text is in the language of the term. The sets are for use meanwhile.
-    pub(crate) fn run(&self, waiting: &mut PositionSet, next: &mut PositionSet, text: &str) -> bool
+    pub(crate) fn run(&self, live: &mut PositionSet, next: &mut PositionSet, text: &str) -> bool
         requires program { IsProgram self.now }
-        requires waiting { length waiting.old ≡ length self.now.positions.symbols }
+        requires live { length live.old ≡ length self.now.positions.symbols }
         requires next { length next.old ≡ length self.now.positions.symbols }
         ensures answer { IsTrue result ↔ Matches (regex (expression_of self.now)) (chars text.now) }
-        ensures waiting_size { length waiting.new ≡ length waiting.old }
+        ensures live_size { length live.new ≡ length live.old }
         ensures next_size { length next.new ≡ length next.old }
     {
-        waiting.clear();
-        waiting.insert_all(self.positions.first());
-        let mut accepted = self.positions.nullable();
+        let mut begun = false;
         for c in text.chars() {
-            accepted = self.advance(waiting, next, c);
-            mem::swap(waiting, next);
+            self.advance(live, begun, c, next);
+            begun = true;
+            mem::swap(live, next);
         }
-        accepted
+        self.accepts(live, begun)
     }
 
-    /// Whether the text up to this character is in the language, where these positions wait for the character. Then
-    /// the next ones wait for the character after it.
-    fn advance(&self, waiting: &PositionSet, next: &mut PositionSet, c: char) -> bool
+    /// The positions that take the character of those that wait for it: at the beginning those that begin a word, and
+    /// then those that follow a live one.
+    fn advance(&self, live: &PositionSet, begun: bool, c: char, next: &mut PositionSet)
         requires program { IsProgram self.now }
-        requires waiting { length waiting.now ≡ length self.now.positions.symbols }
+        requires live { length live.now ≡ length self.now.positions.symbols }
         requires next { length next.old ≡ length self.now.positions.symbols }
-        ensures accepted { IsTrue result ↔ SomeTakes self.now waiting.now c (Contains self.now.positions.last) }
-        ensures next { (q : ℕ) → Has next.new q ↔ SomeTakes self.now waiting.now c (λ p. Contains (row self.now.positions.follow p) q) }
+        ensures next { (q : ℕ) → Has next.new q ↔ (Waits self.now.positions live.now begun q × IsTrue (takes self.now q c)) }
         ensures size { length next.new ≡ length next.old }
     {
         next.clear();
-        let mut accepted = false;
-        let mut done = None;
-        for p in waiting.members() {
-            accepted = self.visit(*p, c, next, &mut done) || accepted;
-        }
-        accepted
-    }
-
-    /// Whether the position takes the character and may end a word. Where it takes it, those that follow it wait; those
-    /// that follow the position that is done wait already.
-    fn visit(&self, p: u32, c: char, next: &mut PositionSet, done: &mut Option<u32>) -> bool
-        requires program { IsProgram self.now }
-        requires within { p < length self.now.positions.symbols }
-        requires next { length next.old ≡ length self.now.positions.symbols }
-        requires done { IfSome done.old (AreWaiting self.now.positions next.old) }
-        ensures done { IfSome done.new (AreWaiting self.now.positions next.new) }
-        ensures accepted { IsTrue result ↔ (IsTrue (takes self.now p c) × Contains self.now.positions.last p) }
-        ensures next { (q : ℕ) → Has next.new q ↔ (Has next.old q ⊎ (IsTrue (takes self.now p c) × Contains (row self.now.positions.follow p) q)) }
-        ensures size { length next.new ≡ length next.old }
-    {
-        if !self.takes(p, c) {
-            return false;
-        }
-        self.put_followers(p, next, done);
-        self.ends[p as usize]
-    }
-
-    /// Those that follow the position wait; where the same ones follow the position that is done, they do already.
-    fn put_followers(&self, p: u32, next: &mut PositionSet, done: &mut Option<u32>)
-        requires program { IsProgram self.now }
-        requires within { p < length self.now.positions.symbols }
-        requires next { length next.old ≡ length self.now.positions.symbols }
-        requires done { IfSome done.old (AreWaiting self.now.positions next.old) }
-        ensures done { IfSome done.new (AreWaiting self.now.positions next.new) }
-        ensures next { (q : ℕ) → Has next.new q ↔ (Has next.old q ⊎ Contains (row self.now.positions.follow p) q) }
-        ensures size { length next.new ≡ length next.old }
-    {
-        if self.waits(*done, p) {
+        if !begun {
+            self.put(self.positions.first(), c, next);
             return;
         }
-        next.insert_all(self.positions.follow(p));
+        let mut done = None;
+        for p in live.members() {
+            self.put_followers(*p, c, next, &mut done);
+        }
+    }
+
+    /// Whether what was read is in the language.
+    fn accepts(&self, live: &PositionSet, begun: bool) -> bool
+        requires program { IsProgram self.now }
+        requires live { length live.now ≡ length self.now.positions.symbols }
+        ensures { IsTrue result ↔ IsRead self.now.positions live.now begun }
+    {
+        if !begun {
+            return self.positions.nullable();
+        }
+        for p in live.members() {
+            if self.ends[*p as usize] {
+                return true;
+            }
+        }
+        false
+    }
+
+    /// Puts those that follow the position and take the character into the set; where the same ones follow the position
+    /// that is done, they are there already.
+    fn put_followers(&self, p: u32, c: char, next: &mut PositionSet, done: &mut Option<u32>)
+        requires program { IsProgram self.now }
+        requires within { p < length self.now.positions.symbols }
+        requires next { length next.old ≡ length self.now.positions.symbols }
+        requires done { IfSome done.old (ArePut self.now next.old c) }
+        ensures done { IfSome done.new (ArePut self.now next.new c) }
+        ensures next { (q : ℕ) → Has next.new q ↔ (Has next.old q ⊎ (Contains (row self.now.positions.follow p) q × IsTrue (takes self.now q c))) }
+        ensures size { length next.new ≡ length next.old }
+    {
+        if self.is_done(*done, p) {
+            return;
+        }
+        self.put(self.positions.follow(p), c, next);
         *done = Some(p);
     }
 
+    /// Puts those of these positions that take the character into the set.
+    fn put(&self, positions: &[u32], c: char, set: &mut PositionSet)
+        requires positions { All (λ p. p < length self.now.positions.symbols) positions.now }
+        requires set { length set.old ≡ length self.now.positions.symbols }
+        ensures set { (q : ℕ) → Has set.new q ↔ (Has set.old q ⊎ (Contains positions.now q × IsTrue (takes self.now q c))) }
+        ensures size { length set.new ≡ length set.old }
+    {
+        for p in positions {
+            if self.takes(*p, c) {
+                set.insert(*p);
+            }
+        }
+    }
+
     /// Whether the same positions follow the one that is done, as far as that is known.
-    fn waits(&self, done: Option<u32>, p: u32) -> bool
+    fn is_done(&self, done: Option<u32>, p: u32) -> bool
         requires within { p < length self.now.positions.symbols }
         requires done { IfSome done (λ q. q < length self.now.positions.symbols) }
         ensures { IsTrue result → (q : ℕ) × (done ≡ Some q) × (row self.now.positions.follow q ≡ row self.now.positions.follow p) }
@@ -155,6 +168,7 @@ impl Program {
     {
         let number = self.positions.symbol_of(p) as usize;
         match self.terms.classes().get(number) {
+            Some(CharClass::Item(ClassItem::One(other))) => c == *other,
             Some(class) => class.contains(c),
             None => false,
         }

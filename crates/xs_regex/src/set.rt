@@ -1,6 +1,6 @@
 //! Sets of positions that take no memory once they are made.
 
-ghost use Rattle.std.specs.Prelude.{◌≡◌, ℕ, ◌<◌, ◌↔◌, ◌⊎◌, false, true, take, length, replicate, slice_set, All, Contains, IfOk};
+ghost use Rattle.std.specs.Prelude.{◌≡◌, ℕ, ◌<◌, ◌↔◌, false, true, take, length, replicate, slice_set, All, Contains, IfOk};
 ghost use Rattle.xs_regex.specs.Sets.{Has};
 
 use std::alloc::{AllocError, Global};
@@ -63,17 +63,6 @@ impl PositionSet {
     {
         clear_flags(&mut self.flags, &self.members);
         self.members.clear();
-    }
-
-    /// Puts these numbers into the set.
-    pub(crate) fn insert_all(&mut self, more: &[u32])
-        requires { All (λ p. p < length self.old) more.now }
-        ensures members { (p : ℕ) → Has self.new p ↔ (Has self.old p ⊎ Contains more.now p) }
-        ensures size { length self.new ≡ length self.old }
-    {
-        for p in more {
-            self.insert(*p);
-        }
     }
 }
 

@@ -1,5 +1,5 @@
 -- The order of uses by their names, and names that are found in the order of their numbers.
-use Rattle.std.specs.Prelude.{◌≡◌, ℕ, ◌<◌, ◌≤◌, ◌-◌, ◌^◌, ◌++◌, Bool, true, false, List, [], ◌∷◌, Option, None, Some, All, map, slice_get}
+use Rattle.std.specs.Prelude.{◌≡◌, ℕ, ◌≤◌, ◌^◌, ◌++◌, Bool, true, false, List, [], ◌∷◌, Option, Some, All, map, slice_get}
 use Rattle.std.specs.Cmp.Lexicographic.{slice_cmp}
 use Rattle.std.specs.Ordering.{nat_cmp, ordering_then, is_lt}
 use Rattle.std.specs.declared.cmp.Ordering.{Ordering}
@@ -8,11 +8,16 @@ use Rattle.xs_names.specs.Names.{NameTable, local_of}
 use Rattle.xs_components.specs.Tables.{Tables}
 use Rattle.xs_components.specs.declared.common.ValueConstraint.{ValueConstraint}
 use Rattle.attr_uses.specs.declared.entry.UseAt.{UseAt}
+use Rattle.attr_uses.specs.declared.entry.NeededUse.{NeededUse}
 use Rattle.assess_records.specs.declared.shape.NamedText.{NamedText}
-use Rattle.attr_uses.specs.Tables.{IsNext}
+use Rattle.attr_uses.specs.Tables.{AreNeeded}
 use Rattle.attr_uses.specs.Uses.{use_named}
 use Rattle.attr_uses.specs.Written.{use_at}
+use Rattle.assess_records.specs.declared.outcome.ValueSource.TheVariants.{Schema}
+use Rattle.attr_assess.specs.declared.governing.AttrGoverning.TheVariants.{Declared}
+use Rattle.attr_assess.specs.declared.judged.JudgedAttr.{JudgedAttr}
 use Rattle.attr_assess.specs.Lacking.{is_missing, is_added, AreThose}
+use Rattle.attr_assess.specs.Records.{IsAttrJudged}
 use Rattle.attr_assess.specs.Order.{space_text}
 use Rattle.attr_assess.specs.Added.{IsAddedUse}
 use Rattle.attr_assess.specs.declared.added.AddedUse.{AddedUse}
@@ -45,6 +50,11 @@ pub record IsWritten (t : Tables) (at : UseAt) (found : FoundUse) : Type 0 where
   pub part : use_at t at ≡ Some found.part.now
   pub decl : slice_get t.attributes.parts found.part.now.attribute ≡ Some found.decl.now
 
+-- the attribute of a use that was found, with the text of a constraint
+abbrev pub IsJudgedWith : Tables → FoundUse → ValueConstraint → JudgedAttr → Type 0
+IsJudgedWith t found constraint judged =
+    IsAttrJudged t found.decl.now.name Schema constraint.scope constraint.text (Declared found.part.now.attribute (Some found.at)) judged
+
 -- the use that gives its attribute a value
 pub record IsAddedOf (names : NameTable) (found : FoundUse) (added : AddedUse) : Type 0 where
   pub name : added.name ≡ found.decl.now.name
@@ -75,11 +85,6 @@ module _ (names : NameTable) (t : Tables) (uses : List UseAt) (given : List Name
     pub added : AreThose (is_added t uses given) bound (map name_of lacking.added)
     pub uses_are : All (IsAddedUse names t uses) lacking.added
 
-  -- and the next name to be looked at is this one
-  abbrev pub AreLackingUpTo : Option ℕ → Lacking → Type 0
-  AreLackingUpTo next lacking = (bound : ℕ) × (bound ≤ 2 ^ 32) × IsNext t uses bound next × AreLackingBelow bound lacking
-
--- how many numbers there are from the next one on
-abbrev pub numbers_left : Option ℕ → ℕ
-numbers_left None = 0
-numbers_left (Some n) = 2 ^ 32 - n
+  -- and the needed names from that bound on, with their uses, are these
+  abbrev pub AreLackingUpTo : List NeededUse → Lacking → Type 0
+  AreLackingUpTo needed lacking = (bound : ℕ) × (bound ≤ 2 ^ 32) × AreNeeded t uses bound needed × AreLackingBelow bound lacking

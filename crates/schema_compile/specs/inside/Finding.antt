@@ -6,6 +6,7 @@ use Rattle.xs_codes.specs.Least.{IsLeast}
 use Rattle.derive_faults.specs.AttrFaults.{AreIdMarks}
 use Rattle.attr_uses.specs.Tables.{AreTablesOf}
 use Rattle.attr_uses.specs.declared.tables.AttrTables.{AttrTables}
+use Rattle.attr_assess.specs.declared.known.KnownUses.{KnownUses}
 use Rattle.component_tables.specs.Types.{AreDeclarationsOf}
 use Rattle.element_declarations.specs.Groups.{AreGroups}
 use Rattle.element_declarations.specs.Classes.{AreClassesOf}
@@ -51,8 +52,8 @@ pub record AreContentsThere (t : Tables) : Type 0 where
   pub there : (n p : ℕ) → content_of t n ≡ Some p → p < length t.particles.parts
 
 -- the set with what was found of it
-abbrev pub joined : CompiledSet → Faultless → Compiled
-joined made whole = record {
+abbrev pub joined : CompiledSet → Faultless → KnownUses → Compiled
+joined made whole known = record {
   names = made.names;
   parts = made.parts;
   types = made.types;
@@ -61,6 +62,7 @@ joined made whole = record {
   declarations = whole.found.declarations;
   named = whole.found.named;
   attr_uses = whole.found.attr_uses;
+  known_uses = known;
   contents = whole.found.contents;
   models = whole.models;
   identities = whole.identities;

@@ -7,17 +7,17 @@ use Rattle.content_automaton.proofs.states.add_row.Goals as goal
 
 pub coming-requires-clause-set : goal.coming-requires-clause-set
 coming-requires-clause-set c =
-    coming_fits _ _ c.args.symbols _ c.requires.within c.args.states.now.keys c.args.state c.index-as_slice-state.result c.deref.result.now c.requires.states c.requires.state
+    coming_fits _ _ c.args.symbols _ c.requires.within c.args.states.now.sets.keys c.args.state c.index-as_slice-state.result c.deref.result.now c.requires.states c.requires.state
     (rw c.as_slice.ensures.keys at c.index-as_slice-state.is) c.deref.ensures.value
 
 pub sort_out-requires-clause-set : goal.sort_out-requires-clause-set
 sort_out-requires-clause-set c =
-    next_fits _ _ c.args.symbols _ c.requires.within c.args.states.now.keys c.args.state c.index-as_slice-state.result c.deref.result.now c.in_ok-next.next.items c.deref-2.result.now c.requires.states c.requires.state
+    next_fits _ _ c.args.symbols _ c.requires.within c.args.states.now.sets.keys c.args.state c.index-as_slice-state.result c.deref.result.now c.in_ok-next.next.items c.deref-2.result.now c.requires.states c.requires.state
     (rw c.as_slice.ensures.keys at c.index-as_slice-state.is) c.deref.ensures.value c.in_ok-next.ensures.members c.deref-2.ensures.value
 
 pub loop-set-init : goal.loop-set-init
 loop-set-init c =
-    turns_begun _ _ c.args.symbols _ c.requires.within c.args.states.now.keys c.args.cells.now.items c.args.state c.index-as_slice-state.result c.deref.result.now c.in_ok-next.next.items c.deref-2.result.now
+    turns_begun _ _ c.args.symbols _ c.requires.within c.args.states.now.sets.keys c.args.cells.now.items c.args.state c.index-as_slice-state.result c.deref.result.now c.in_ok-next.next.items c.deref-2.result.now
     c.sort_out.new.sets.items c.as_slice-all.result.now c.requires.states c.requires.few c.requires.state c.requires.steps c.requires.cells
     (rw c.as_slice.ensures.keys at c.index-as_slice-state.is) c.deref.ensures.value c.in_ok-next.ensures.members c.deref-2.ensures.value
     (c.in_ok-sort_out.ensures.count ∙ c.requires.sets) (λ n l. c.in_ok-sort_out.ensures.sets n (let e = c.requires.sets in omega arith)) c.as_slice-all.ensures.value

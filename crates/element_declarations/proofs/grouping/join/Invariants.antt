@@ -1,4 +1,4 @@
-use Rattle.element_declarations.proofs.HeadLaws.{IsJoinedBelow, left}
+use Rattle.element_declarations.proofs.JoinLaws.{IsJoinedBelow, left}
 use Rattle.element_declarations.proofs.grouping.join.Given as goal
 
 abbrev pub invariant-up : goal.invariant-up

@@ -36,7 +36,8 @@ attrs-preserved g c =
     let line = attr_line_of (set_of c.args.set.now) c.args.node in
     let whole = text_of c.args.left.now (map line c.args.attrs.now) in
     let more = map line c.in-Some.more.now in
-    let left : left_behind c.attrs.left c.in-Some.record.now.codes ≡ c.left_behind.result = sym c.left_behind.ensures in
+    let left : left_behind c.attrs.left c.in-Some.record.now.codes ≡ c.left_behind.result =
+    sym (c.left_behind.ensures ∙ ap (λ (attr : AttrRecord). left_behind c.attrs.left attr.codes) c.get.ensures) in
     let begun = subst (λ (t : List ℕ). IsBegun (g.W.Sink.taken c.args.sink.now) (g.W.Sink.taken c.attrs.sink) t whole)
     (ap (λ (l : List AttrRecord). text_of c.attrs.left (map line l)) c.in-Some.ensures.cases.0 ∙ line-then c.attrs.left (line c.in-Some.record.now) more) before.begun in
     record {

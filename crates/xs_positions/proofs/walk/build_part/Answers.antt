@@ -16,7 +16,7 @@ join_all-requires c =
     let ns = c.args.nodes.now in
     let n = node_tree ns c.args.id c.index.result c.index-nodes-index.result _ c.requires.measured.ordered c.requires.id c.index.ensures c.index-nodes-index.is c.in-Sequence.is in
     let h = ids_here ns c.args.id c.index.result c.index-nodes-index.result c.requires.id c.index.ensures c.index-nodes-index.is ∙ ap ids_of c.in-Sequence.is in
-    (trees_in ns c.in-Sequence.field-0.items, rw h at c.requires.parts, rw n at c.requires.inhabited)
+    (trees_in ns c.in-Sequence.field-0.items, rw h at c.requires.parts, rw n at c.requires.inhabited, rw n at c.requires.fits)
 
 pub returns-in-Symbol : goal.returns-in-Symbol
 returns-in-Symbol c =

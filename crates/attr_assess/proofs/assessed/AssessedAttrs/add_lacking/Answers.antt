@@ -1,11 +1,19 @@
-use Rattle.std.proofs.Common.{List, refl, subst}
+use Rattle.std.proofs.Common.{List, refl, sym, subst}
+use Rattle.std.specs.Prelude.{All}
 use Rattle.std.proofs.lemmas.Result.{on_ok_weaker}
 use Rattle.attr_assess.specs.Governing.{uses_for}
 use Rattle.attr_assess.specs.declared.added.AddedUse.{AddedUse}
 use Rattle.attr_assess.specs.declared.assessed.AssessedAttrs.{AssessedAttrs}
-use Rattle.attr_assess.specs.inside.Lists.{HoldsEach, IsUseJudged}
+use Rattle.attr_assess.specs.inside.Lists.{HoldsEach, IsUse, IsUseJudged}
+use Rattle.attr_assess.proofs.KnownLaws.{added-written}
 use Rattle.attr_assess.proofs.Whole.{lacking-holds}
 use Rattle.attr_assess.proofs.assessed.AssessedAttrs.add_lacking.Goals as goal
+
+pub add_uses-requires-clause-written : goal.add_uses-requires-clause-written
+add_uses-requires-clause-written c =
+    let t = c.args.schema.now.parts.now in
+    subst (All (IsUse t)) (sym c.as_slice.ensures)
+    (added-written t c.args.schema.now.names.now (uses_for t c.args.of.now).uses c.in_ok-missing.field-0.added c.in_ok-missing.ensures.lacking.uses_are)
 
 pub returns-clause-lacking : goal.returns-clause-lacking
 returns-clause-lacking c =

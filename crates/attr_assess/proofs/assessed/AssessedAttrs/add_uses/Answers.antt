@@ -1,19 +1,18 @@
-use Rattle.std.proofs.Common.{List, ℕ, Some, ◌∙◌, subst}
-use Rattle.assess_records.specs.declared.outcome.ValueSource.TheVariants.{Schema}
-use Rattle.attr_assess.specs.declared.governing.AttrGoverning.TheVariants.{Declared}
-use Rattle.attr_assess.specs.Records.{IsAttrJudged}
-use Rattle.attr_assess.specs.inside.Lists.{IsUseJudged}
+use Rattle.std.proofs.Common.{sym, ◌∙◌, subst}
+use Rattle.std.proofs.lemmas.List.Elements.{All-get_or}
+use Rattle.attr_assess.specs.inside.Lists.{IsUse, IsUseJudged}
 use Rattle.attr_assess.proofs.Held.{each-next}
 use Rattle.attr_assess.proofs.assessed.AssessedAttrs.add_uses.Goals as goal
 
+pub judged_use-requires-clause-written : goal.judged_use-requires-clause-written
+judged_use-requires-clause-written c =
+    let t = c.args.schema.now.parts.now in
+    subst (IsUse t) (sym c.added-item.is) (All-get_or (IsUse t) c.args.uses.now c.loop-added.added-index c.added-item.result c.loop-added-test.true c.requires.written)
+
 pub loop-added-preserved : goal.loop-added-preserved
 loop-added-preserved c =
-    let t = c.args.parts.now in
-    let added = c.added-item.result in
-    let judged = c.in_ok-judged.judged in
-    let known = subst (λ (text : List ℕ). IsAttrJudged t added.name Schema added.constraint.now.scope text (Declared added.attribute (Some added.at)) judged) c.as_str.ensures c.in_ok-judged.ensures.judged in
     record {
-      held = each-next (IsUseJudged t) c.args.uses.now c.loop-added.added-index added c.args.self.now c.loop-added.self c.push.new.self judged
-          c.loop-added-test.true c.added-item.is c.loop-added.invariant.held known c.in_ok-push.ensures;
-      same = c.judge.ensures.same ∙ c.loop-added.invariant.same;
+      held = each-next (IsUseJudged c.args.schema.now.parts.now) c.args.uses.now c.loop-added.added-index c.added-item.result c.args.self.now c.loop-added.self c.push.new.self c.in_ok-judged.judged
+          c.loop-added-test.true c.added-item.is c.loop-added.invariant.held c.in_ok-judged.ensures.judged c.in_ok-push.ensures;
+      same = c.judged_use.ensures.same ∙ c.loop-added.invariant.same;
     }

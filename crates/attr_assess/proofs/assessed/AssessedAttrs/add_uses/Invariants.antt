@@ -4,6 +4,6 @@ use Rattle.attr_assess.proofs.assessed.AssessedAttrs.add_uses.Given as goal
 
 abbrev pub invariant-loop-added : goal.invariant-loop-added
 invariant-loop-added l = record {
-  held : HoldsEach (IsUseJudged l.parts) (take l.added-index l.uses) l.fn.self l.self;
+  held : HoldsEach (IsUseJudged l.schema.parts.now) (take l.added-index l.uses) l.fn.self l.self;
   same : l.types ≡ l.fn.types;
 }

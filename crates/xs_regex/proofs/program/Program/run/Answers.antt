@@ -4,24 +4,17 @@ use Rattle.std.proofs.lemmas.Iterator.Consumers.{YieldsList-turn, YieldsList-end
 use Rattle.std.proofs.lemmas.List.{length_push}
 use Rattle.std.specs.Str.{chars}
 use Rattle.xs_regex.specs.Program.{expression_of}
-use Rattle.xs_regex.proofs.ProgramLaws.{first_within}
 use Rattle.xs_regex.proofs.Running.{run_sound, run_complete, turn_sound, turn_complete, run_matches, matches_run, drop_all}
 use Rattle.xs_regex.proofs.program.Program.run.Goals as goal
-
-pub insert_all-requires : goal.insert_all-requires
-insert_all-requires c =
-    rw (c.first.ensures, c.clear.ensures.size, c.requires.waiting) (first_within (expression_of c.args.self.now).tree c.args.self.now.positions c.requires.program.positions)
 
 pub loop-c-init : goal.loop-c-init
 loop-c-init c =
     let term = expression_of c.args.self.now in
     let table = c.args.self.now.positions in
     record {
-      sound = run_sound term.classes term.tree table c.requires.program.positions c.clear.new.self c.insert_all.new.self c.first.result.now c.nullable-accepted.result (chars c.args.text.now)
-          c.first.ensures c.nullable-accepted.ensures c.clear.ensures.empty c.insert_all.ensures.members;
-      complete = run_complete term.classes term.tree table c.requires.program.positions c.clear.new.self c.insert_all.new.self c.first.result.now c.nullable-accepted.result (chars c.args.text.now)
-          c.first.ensures c.nullable-accepted.ensures c.clear.ensures.empty c.insert_all.ensures.members;
-      waiting = c.insert_all.ensures.size ∙ (c.clear.ensures.size ∙ c.requires.waiting);
+      sound = run_sound term.classes term.tree table c.requires.program.positions c.args.live.now (chars c.args.text.now);
+      complete = run_complete term.classes term.tree table c.requires.program.positions c.args.live.now (chars c.args.text.now);
+      live = c.requires.live;
       next = c.requires.next;
     }
 
@@ -33,13 +26,14 @@ loop-c-preserved c =
     let yielded = c.loop-c.yielded in
     let t = YieldsList-turn (YieldsList-from_chars c.args.text.now c.utf8.text cc) yielded _ c.loop-c.yielded_by _ _ c.in-Some.c c.in-Some.is c.next.ensures.steps in
     let m = length_push yielded c.in-Some.c in
+    let size = c.advance.ensures.size ∙ c.loop-c.invariant.next in
     record {
-      sound = turn_sound term.classes term.tree table c.requires.program.positions c.loop-c.waiting c.advance-accepted.new.next c.swap.new.x c.loop-c.accepted c.advance-accepted.result
-          text c.in-Some.c (length yielded) _ c.swap.ensures.x_after m t.0 t.1 c.loop-c.invariant.waiting c.advance-accepted.ensures.accepted c.advance-accepted.ensures.next c.loop-c.invariant.sound;
-      complete = turn_complete term.classes term.tree table c.requires.program.positions c.loop-c.waiting c.advance-accepted.new.next c.swap.new.x c.loop-c.accepted c.advance-accepted.result
-          text c.in-Some.c (length yielded) _ c.swap.ensures.x_after m t.0 t.1 c.loop-c.invariant.waiting c.advance-accepted.ensures.accepted c.advance-accepted.ensures.next c.loop-c.invariant.complete;
-      waiting = rw c.swap.ensures.x_after (c.advance-accepted.ensures.size ∙ c.loop-c.invariant.next);
-      next = rw c.swap.ensures.y_after c.loop-c.invariant.waiting;
+      sound = turn_sound term.classes term.tree table c.requires.program.positions c.loop-c.live c.advance.new.next c.swap.new.x c.loop-c.begun
+          text c.in-Some.c (length yielded) _ c.swap.ensures.x_after m t.0 t.1 size c.advance.ensures.next c.loop-c.invariant.sound;
+      complete = turn_complete term.classes term.tree table c.requires.program.positions c.loop-c.live c.advance.new.next c.swap.new.x c.loop-c.begun
+          text c.in-Some.c (length yielded) _ c.swap.ensures.x_after m t.0 t.1 size c.advance.ensures.next c.loop-c.invariant.complete;
+      live = rw c.swap.ensures.x_after size;
+      next = rw c.swap.ensures.y_after c.loop-c.invariant.live;
     }
 
 pub returns-clause-answer : goal.returns-clause-answer
@@ -49,6 +43,6 @@ returns-clause-answer c =
     let text = chars c.args.text.now in
     let t = YieldsList-end (YieldsList-from_chars c.args.text.now c.utf8.text cc) c.loop-c.yielded _ c.loop-c.yielded_by _ _ c.in-None.is c.next.ensures.steps in
     let e : drop (length c.loop-c.yielded) text ≡ [] = drop_all text (length c.loop-c.yielded) (let l = t.1 in omega (arith, l)) in (
-      (λ h. run_matches term.classes term.tree table c.requires.program.positions text (c.loop-c.invariant.sound (rw e h))),
-      (λ h. rw e at (c.loop-c.invariant.complete (matches_run term.classes term.tree table c.requires.program.positions text h))),
+      (λ h. run_matches term.classes term.tree table c.requires.program.positions text (c.loop-c.invariant.sound (rw e (c.accepts.ensures.0 h)))),
+      (λ h. c.accepts.ensures.1 (rw e at (c.loop-c.invariant.complete (matches_run term.classes term.tree table c.requires.program.positions text h)))),
     )
