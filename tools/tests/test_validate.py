@@ -136,6 +136,11 @@ class Schemas(Case):
         self.assertIn('cvc-maxInclusive-valid', self.lines('a.xsd', 'a.xml', status=1)[1])
 
 
+def hears_interrupts():
+    """What a shell starts behind `&` ignores them, and so does what that starts."""
+    signal.signal(signal.SIGINT, signal.SIG_DFL)
+
+
 class Options(Case):
     def setUp(self):
         super().setUp()
@@ -181,7 +186,7 @@ class Options(Case):
 
     def test_watch(self):
         with subprocess.Popen([os.path.join(TOP, 'tools', 'validate'), '--watch', 'a.xsd', 'a.xml'], cwd=self.folder, text=True,
-                              stdout=subprocess.PIPE, stderr=subprocess.PIPE) as watching:
+                              stdout=subprocess.PIPE, stderr=subprocess.PIPE, preexec_fn=hears_interrupts) as watching:
             try:
                 self.assertIn('cvc-type.3.1.3', watching.stdout.readline())
                 self.assertIn('cvc-datatype-valid.1', watching.stdout.readline())
