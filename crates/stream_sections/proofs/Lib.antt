@@ -1,4 +1,5 @@
 pub mod Building
+pub mod Growing
 pub mod Reading
 pub mod Spelling
 pub mod Refusing

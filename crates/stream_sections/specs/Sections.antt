@@ -1,5 +1,5 @@
 -- What the items of a stream give, section by section; or the first line that is refused.
-use Rattle.std.specs.Prelude.{ℕ, ◌+◌, List, [], ◌∷◌, ◌++◌, Bool, nat_le, length, Option, Some, None, Result, Ok, Err, if◌then◌else◌}
+use Rattle.std.specs.Prelude.{ℕ, ◌+◌, List, [], ◌∷◌, ◌++◌, nat_le, length, Option, Some, None, Result, Ok, Err, if◌then◌else◌}
 use Rattle.item_listing.specs.Listed as listed
 use Rattle.item_listing.specs.declared.item.Item.{Item}
 use Rattle.item_listing.specs.declared.item.Item.TheVariants as items
@@ -13,7 +13,6 @@ use Rattle.tree_building.specs.declared.building.Building.{Building}
 use Rattle.tree_building.specs.declared.fault.TreeFault.{TreeFault}
 use Rattle.stream_sections.specs.Lines.{is_listing, ends_schemas, may_edit, opens_block}
 use Rattle.stream_sections.specs.declared.asked.Asked.{Asked}
-use Rattle.stream_sections.specs.declared.refusal.Refusal.{Refusal}
 use Rattle.stream_sections.specs.declared.refusal.Refusal.TheVariants as refusals
 use Rattle.stream_sections.specs.declared.refusal.RefusedLine.{RefusedLine}
 use Rattle.stream_sections.specs.declared.schemas.SchemaSection.{SchemaSection}

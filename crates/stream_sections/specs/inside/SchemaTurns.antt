@@ -1,5 +1,5 @@
 -- What an item does to a reader of schema sections.
-use Rattle.std.specs.Prelude.{◌≡◌, ℕ, ◌+◌, List, [], ◌∷◌, ◌++◌, nat_le, length, Option, Some, None, Result, Ok, Err, if◌then◌else◌}
+use Rattle.std.specs.Prelude.{◌≡◌, ℕ, ◌+◌, List, [], ◌∷◌, ◌++◌, nat_le, length, Option, Some, None, Result, if◌then◌else◌}
 use Rattle.item_listing.specs.Listed as listed
 use Rattle.item_listing.specs.declared.item.Item.{Item}
 use Rattle.item_listing.specs.declared.item.Item.TheVariants as items
@@ -12,7 +12,6 @@ use Rattle.stream_sections.specs.Lines.{is_listing, ends_schemas}
 use Rattle.stream_sections.specs.Sections.{Stop, refused, goes_on, Stream, schemas, unfinished, misplaced, bad_line, no_end, built_so_far, grown_by, with_tree}
 use Rattle.stream_sections.specs.declared.asked.Asked.{Asked}
 use Rattle.stream_sections.specs.declared.refusal.Refusal.TheVariants as refusals
-use Rattle.stream_sections.specs.declared.refusal.RefusedLine.{RefusedLine}
 use Rattle.stream_sections.specs.declared.schemas.Begun.{Begun}
 use Rattle.stream_sections.specs.declared.schemas.SchemaReader.{SchemaReader}
 use Rattle.stream_sections.specs.declared.schemas.SchemaSection.{SchemaSection}
