@@ -12,7 +12,7 @@ use crate::building::first_of;
 use crate::content::judged_contents;
 use crate::filling::judged_simples;
 use crate::{JudgedType, validated};
-use facets::{Accepted, Facets};
+use facets::{Accepted, Facets, read_builtin};
 use simple_values::Value;
 use std::alloc::{AllocError, Global};
 use xs_codes::{Code, Fault};
@@ -66,10 +66,7 @@ impl SimpleTypes {
     {
         match of {
             TypeId::AnyType => Ok(Err(Code::CvcDatatypeValid1)),
-            TypeId::Builtin(kind) => {
-                let facets = Facets::of_builtin(alloc, kind);
-                value_by(alloc, &facets, text, scope)
-            }
+            TypeId::Builtin(kind) => read_builtin(alloc, kind, text, scope),
             TypeId::Simple(id) => value_in(
                 alloc,
                 self.simples.as_slice(),

@@ -7,5 +7,6 @@ mod PoolLaws
 mod QNameLaws
 mod ScopeLaws
 pub mod Again
+pub mod Bare
 pub mod Joining
 pub mod Spacing
