@@ -57,7 +57,7 @@ fn named_texts(
     ensures named { IfOk result (λ attrs. attrs ≡ numbered.named_texts names.old attributes.now) }
     ensures same { names.new ≡ names.old }
 {
-    let mut attrs = Listed::new(alloc);
+    let mut attrs = Listed::from_vec(Vec::with_capacity(alloc, attributes.len())?);
     for attribute in attributes {
         let named = named_text(names, attribute)?;
         attrs.push(named)?;
