@@ -1,16 +1,14 @@
 -- The elements of a document that is kept by numbers, as assessment reads them.
 use Rattle.std.specs.Prelude.{◌≡◌, ℕ, List, ◌++◌, map}
 use Rattle.xs_names.specs.Names.{NameTable}
-use Rattle.assess_records.specs.Numbered.{Scope}
 use Rattle.assess_records.specs.declared.shape.NamedText.{NamedText}
 use Rattle.assessment.specs.Local.{Readers}
-use Rattle.elem_governing.specs.declared.head.ElementHead.{ElementHead}
 use Rattle.doc_nodes.specs.Nodes.{Nodes, element_children}
 use Rattle.doc_nodes.specs.declared.content.NameAttribute.{NameAttribute}
 use Rattle.doc_nodes.specs.declared.content.NameBinding.{NameBinding}
 use Rattle.doc_changes.specs.Stands.{expanded_of, attribute_of, binding_of}
 use Rattle.doc_changes.specs.Held.{attributes_at, bindings_at}
-use Rattle.doc_changes.specs.Readers.{name_at, own_chars, own_scope}
+use Rattle.doc_changes.specs.Readers.{name_at, own_chars}
 
 -- what is read of an element of a number, where names go by the numbers of a table
 abbrev pub readers_of : NameTable → Nodes → Readers
@@ -32,9 +30,3 @@ texts_named ns n = map text_named (attributes_at ns n)
 -- a prefix with the number of its namespace
 abbrev pub pair_of : NameBinding → List ℕ × ℕ
 pair_of b = (b.prefix, b.namespace)
-
--- this is the head of the element of a number, below one with the outer scope
-pub record IsHeadAt (ns : Nodes) (n : ℕ) (outer : Scope) (h : ElementHead) : Type 0 where
-  pub name : h.name ≡ name_at ns n
-  pub attributes : h.attrs ≡ texts_named ns n
-  pub scope : h.scope ≡ own_scope ns n ++ outer

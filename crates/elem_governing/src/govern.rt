@@ -65,7 +65,7 @@ pub fn govern_child(
 }
 
 /// What governs a child that has this name and no attribute xsi:type: what `govern_child` answers, which reads no scope then.
-pub fn govern_plain_child(
+pub fn govern_untyped_child(
     view: &SchemaView<'_>,
     parent: Governing,
     term: Option<TermId>,
