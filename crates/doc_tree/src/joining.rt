@@ -32,6 +32,17 @@ fn joined(alloc: Global, links: &NodeLinks, nodes: &[u32]) -> Result<Text, Alloc
     Text::from_string(chars)
 }
 
+/// The child of a node that has no other.
+pub(crate) fn only_child(links: &NodeLinks, node: u32) -> Option<u32>
+    ensures { IfSome result (λ child. children_by (nodes.node links.now node) ≡ child ∷ []) }
+{
+    if links.child_count(node) == 1 {
+        links.child_at(node, 0)
+    } else {
+        None
+    }
+}
+
 /// The characters of the texts among some nodes, one after another. Those of a text alone are shared.
 pub(crate) fn texts_of(alloc: Global, links: &NodeLinks, nodes: &[u32]) -> Result<Text, AllocError>
     ensures { IfOk result (λ text. text ≡ flat_map (chars_at links.now) nodes.now) }

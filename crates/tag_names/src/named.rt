@@ -110,7 +110,7 @@ impl JudgedLines {
                 Ok(())
             }
             None => {
-                let judged = judged_attribute(own, scope, pool, name)?;
+                let judged = judged_attribute(own, scope, pool, &line.name)?;
                 self.put_attribute(judged, line)?;
                 Ok(())
             }

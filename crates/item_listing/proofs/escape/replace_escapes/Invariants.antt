@@ -4,7 +4,7 @@ use Rattle.std.specs.Option.{option_map}
 use denote.Shadow.{shadow}
 use denote.Text.{Utf8}
 use Rattle.item_listing.specs.Escapes.{unescaped}
-use Rattle.item_listing.proofs.escape.unescape.Given as goal
+use Rattle.item_listing.proofs.escape.replace_escapes.Given as goal
 
 abbrev pub invariant-loop-front : goal.invariant-loop-front
 invariant-loop-front l = record {
