@@ -62,6 +62,9 @@ impl Names {
         ensures grown { Grown self.old self.new }
         ensures sound { IsSound self.new }
     {
+        if name.is_empty() {
+            return Ok(NsId::ABSENT);
+        }
         Ok(NsId {
             number: self.spaces.insert(name)?,
         })

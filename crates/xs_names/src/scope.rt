@@ -52,9 +52,10 @@ impl Scope {
     pub fn new(alloc: Global) -> Result<Self, AllocError>
         ensures { IfOk result (λ scope. scope ≡ first_scope) }
     {
-        let mut bindings = Vec::new(alloc);
+        let prefix = Text::new(alloc, "xml")?;
+        let mut bindings = Vec::with_capacity(alloc, 1)?;
         bindings.push(ScopeBinding {
-            prefix: Text::new(alloc, "xml")?,
+            prefix,
             ns: NsId::XML,
         })?;
         Ok(Scope { bindings })
@@ -102,7 +103,7 @@ impl Scope {
     {
         let alloc = *self.bindings.allocator();
         let held = self.bindings.as_slice();
-        let mut bindings = Vec::new(alloc);
+        let mut bindings = Vec::with_capacity(alloc, held.len())?;
         for binding in held {
             bindings.push(ScopeBinding {
                 prefix: binding.prefix.try_clone()?,
