@@ -67,7 +67,7 @@ fn read_in_p(alloc: Global, names: &mut Names) -> Result<Option<Tree>, AllocErro
     let items = items_of(alloc, &["(p:r", "-x", ")p:r"])?;
     let space = names.namespace_id("u")?;
     let mut scope = Scope::new(alloc)?;
-    scope.bind("p", space)?;
+    scope.bind(&Text::new(alloc, "p")?, space)?;
     Ok(fragment(alloc, names, &scope, items.as_slice())?.ok())
 }
 

@@ -31,7 +31,7 @@ fn scope_in(names: &mut Names, outer: &Scope, bindings: &[Binding]) -> Result<Sc
     let mut scope = outer.try_clone()?;
     for binding in bindings {
         let space = known_space(names, binding.namespace.as_str())?;
-        scope.bind(binding.prefix.as_str(), space)?;
+        scope.bind(&binding.prefix, space)?;
     }
     Ok(scope)
 }

@@ -3,7 +3,7 @@ use crate::escapes::{decoded, encoded};
 use crate::shown::shown;
 use simple_values::{Value, ValueFault, builtin_named, length, less, read_builtin, same};
 use std::alloc::{AllocError, Global};
-use xs_names::{Names, Scope};
+use xs_names::{Names, Scope, Text};
 
 /// The scope of the table: `p` is bound to the second namespace, and the default namespace is the third.
 pub fn table_scope(alloc: Global) -> Result<Scope, AllocError> {
@@ -17,8 +17,8 @@ fn scope_of(alloc: Global, names: &mut Names) -> Result<Scope, AllocError> {
     let second = names.namespace_id("urn:second")?;
     let third = names.namespace_id("urn:third")?;
     let mut scope = Scope::new(alloc)?;
-    scope.bind("p", second)?;
-    scope.bind("", third)?;
+    scope.bind(&Text::new(alloc, "p")?, second)?;
+    scope.bind(&Text::new(alloc, "")?, third)?;
     Ok(scope)
 }
 

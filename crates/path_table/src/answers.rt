@@ -4,7 +4,7 @@ use std::alloc::{AllocError, Global};
 use xpath_subset::{
     NameTest, Path, Paths, Step, XPathFault, is_reached, read_field, read_selector,
 };
-use xs_names::{NameId, Names, NsId, Scope};
+use xs_names::{NameId, Names, NsId, Scope, Text};
 
 // The names and the bindings of the table.
 #[derive(Drop)]
@@ -38,9 +38,9 @@ fn bound(alloc: Global, names: &mut Names) -> Result<(Spaces, Scope), AllocError
         default: names.namespace_id("urn:d")?,
     };
     let mut scope = Scope::new(alloc)?;
-    scope.bind("p", spaces.p)?;
-    scope.bind("q", spaces.q)?;
-    scope.bind("", spaces.default)?;
+    scope.bind(&Text::new(alloc, "p")?, spaces.p)?;
+    scope.bind(&Text::new(alloc, "q")?, spaces.q)?;
+    scope.bind(&Text::new(alloc, "")?, spaces.default)?;
     Ok((spaces, scope))
 }
 

@@ -176,7 +176,8 @@ impl Prefixes {
         requires { All (λ bound. bound.1 < length names.now.spaces) scope.now }
         ensures { IfOk result (λ prefixes. prefixes ≡ map (scopes.binding_in names.now) scope.now) }
     {
-        bound_by_name(alloc, names, scope.bindings())
+        let bindings = scope.to_bindings()?;
+        bound_by_name(alloc, names, bindings.as_slice())
     }
 
     /// Binds a prefix, or the default namespace. Earlier bindings of it are hidden.

@@ -4,7 +4,7 @@ use std::alloc::{AllocError, Global};
 use std::collections::HashMap;
 use std::test::Fail;
 use xs_codes::Builtin;
-use xs_names::{Names, Scope};
+use xs_names::{Names, Scope, Text};
 
 // The scope that binds `p`.
 fn scope_with_p(alloc: Global) -> Result<Scope, AllocError> {
@@ -17,7 +17,7 @@ fn scope_with_p(alloc: Global) -> Result<Scope, AllocError> {
 fn scope_of_p(alloc: Global, names: &mut Names) -> Result<Scope, AllocError> {
     let space = names.namespace_id("urn:p")?;
     let mut scope = Scope::new(alloc)?;
-    scope.bind("p", space)?;
+    scope.bind(&Text::new(alloc, "p")?, space)?;
     Ok(scope)
 }
 
