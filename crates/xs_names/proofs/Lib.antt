@@ -1,3 +1,4 @@
+mod AbsentLaws
 mod CharacterLaws
 pub mod GrownLaws
 mod KeptLaws

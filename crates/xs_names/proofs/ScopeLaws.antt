@@ -1,6 +1,7 @@
 -- Scopes, and the list of bindings that one is kept as.
-use Rattle.std.proofs.Common.{◌≡◌, ℕ, List, [], ◌∷◌, ◌++◌, map, reverse, bytes_eq, Bool, true, false, Option, None, Some, refl, sym, ap, ◌∙◌}
+use Rattle.std.proofs.Common.{◌≡◌, ℕ, List, [], ◌∷◌, ◌++◌, map, reverse, bytes_eq, codes, Bool, true, false, Option, None, Some, refl, sym, ap, ◌∙◌}
 use Rattle.std.proofs.lemmas.Option.{none-some}
+use Rattle.std.proofs.lemmas.List.{reverse-append, reverse-reverse}
 use Rattle.std.specs.List.{find}
 use Rattle.std.specs.Option.{option_map}
 use Rattle.indexmap.proofs.ReorderLemmas.{map-reverse}
@@ -51,3 +52,7 @@ module _ (prefix : List ℕ) (bindings : List ScopeBinding) where
 
   pub binding-first : found_number latest ≡ None → binding_of (reverse (map prefix_and_space bindings) ++ first_scope) prefix ≡ binding_of first_scope prefix
   binding-first e = binding_of-earlier prefix _ first_scope (sym (binding_of-reverse prefix bindings) ∙ e)
+
+-- all bindings in the order of their coming
+pub all-bindings : (bound : List (List ℕ × ℕ)) → (codes "xml", 1) ∷ bound ≡ reverse (reverse bound ++ first_scope)
+all-bindings bound = sym (reverse-append (reverse bound) first_scope ∙ ap (λ l. (codes "xml", 1) ∷ l) (reverse-reverse bound))
