@@ -15,7 +15,7 @@ pub struct RecentNames {
 
 /// The place of a name.
 fn place_of(name: &str) -> usize
-    ensures { result < PLACES }
+    ensures { result < 256 }
 {
     let mut mixed = 0u8;
     for byte in name.as_bytes() {
@@ -40,7 +40,7 @@ impl RecentNames {
 
     /// Makes all places, where they are not there.
     fn make_places(&mut self) -> Result<(), AllocError>
-        ensures { OnOk result (PLACES ≤ vec_len self.new.places) }
+        ensures { OnOk result (256 ≤ vec_len self.new.places) }
     {
         while self.places.len() < PLACES {
             self.places.push(None)?;
