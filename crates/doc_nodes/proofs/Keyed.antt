@@ -94,6 +94,15 @@ module _ (keys : List (Option ℕ)) (slab sl : Slab Slot) (n key : ℕ) (kept : 
       kept_on keys (set keys n None) slab sl n key kept (length-set keys n None) (set_others None) (away_take None at u)
       (λ k e. absurd (none-some k (sym (at_set None lt) ∙ e)))
 
+  -- what is written in the place of what was there
+  pub writes_at : (s : Slot) → key_at keys n ≡ Some key → Updates slab sl key (Some s) → Writes (map (slot_by slab) keys) (map (slot_by sl) keys) n (Some s)
+  writes_at s at u = writes keys keys slab sl n key kept refl (λ m d. refl) (away_take (Some s) at u) (Some s) (ap (slot_by sl) at ∙ u.changed)
+
+  pub kept_at : (s : Slot) → key_at keys n ≡ Some key → s.number ≡ n → Updates slab sl key (Some s) → AreKept keys sl
+  kept_at s at num u =
+      kept_on keys keys slab sl n key kept refl (λ m d. refl) (away_take (Some s) at u)
+      (λ k e. let q : key ≡ k = same_Some key k (sym at ∙ e) in (s, ap (get sl) (sym q) ∙ u.changed, num))
+
 -- a number whose slot is there has a key
 pub within_of : (keys : List (Option ℕ)) (slab : Slab Slot) (n : ℕ) (s : Slot) → slot (map (slot_by slab) keys) n ≡ Some s → n < length keys
 within_of keys slab n s e =
