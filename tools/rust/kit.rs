@@ -7,6 +7,7 @@ use std::borrow::Borrow;
 use std::hash::Hash;
 pub mod indexmap {
     use super::*;
+    use rstd::collections::Fold;
     use std::hash::{BuildHasher, BuildHasherDefault, Hasher};
     #[derive(Clone, Default)]
     pub struct Same(u64);
@@ -22,48 +23,8 @@ pub mod indexmap {
         }
     }
     type Places = std::collections::HashMap<u64, std::vec::Vec<usize>, BuildHasherDefault<Same>>;
-    /// Hashes as the kit's maps do, by folded products.
-    struct Fold(u64);
-    fn folded(a: u64, b: u64) -> u64 {
-        let product = a as u128 * b as u128;
-        product as u64 ^ (product >> 64) as u64
-    }
-    fn word(bytes: &[u8], at: usize) -> u64 {
-        u64::from_le_bytes(bytes[at..at + 8].try_into().unwrap())
-    }
-    fn short(bytes: &[u8]) -> u64 {
-        let len = bytes.len();
-        let half = |at: usize| u32::from_le_bytes(bytes[at..at + 4].try_into().unwrap()) as u64;
-        if len >= 4 {
-            half(0) | half(len - 4) << 32
-        } else if len > 0 {
-            bytes[0] as u64 | (bytes[len / 2] as u64) << 8 | (bytes[len - 1] as u64) << 16
-        } else {
-            0
-        }
-    }
-    const MULTIPLIER: u64 = 0x9e37_79b9_7f4a_7c15;
-    impl Hasher for Fold {
-        fn finish(&self) -> u64 {
-            self.0
-        }
-        fn write(&mut self, bytes: &[u8]) {
-            let len = bytes.len();
-            if len <= 8 {
-                self.0 = folded(self.0 ^ short(bytes), MULTIPLIER ^ (2 * len as u64));
-                return;
-            }
-            let mut state = self.0.wrapping_add(len as u64);
-            let mut at = 0;
-            while len - at > 16 {
-                state = folded(word(bytes, at) ^ state, word(bytes, at + 8) ^ MULTIPLIER);
-                at += 16;
-            }
-            self.0 = folded(word(bytes, len.saturating_sub(16)) ^ state, word(bytes, len - 8) ^ MULTIPLIER);
-        }
-    }
     fn hash_of<Q: ?Sized + Hash>(q: &Q) -> u64 {
-        let mut h = Fold(0x243f_6a88_85a3_08d3);
+        let mut h = Fold::default();
         q.hash(&mut h);
         h.finish()
     }
