@@ -3,9 +3,8 @@ pub mod GrownLaws
 mod KeptLaws
 mod NumberedLaws
 pub mod NumberingLaws
-mod PoolLaws
 mod QNameLaws
-mod ScopeLaws
+pub mod ScopeLaws
 pub mod Again
 pub mod Joining
 pub mod Spacing

@@ -1,9 +1,8 @@
 -- Scopes, and the list of bindings that one is kept as.
 use Rattle.std.proofs.Common.{◌≡◌, ℕ, ◌-◌, List, [], ◌∷◌, ◌++◌, length, map, take, drop, reverse, bytes_eq, Bool, true, false, Option, refl, sym, ap, ◌∙◌, arith}
-use Rattle.std.proofs.lemmas.List.{length-append, length-reverse, length-take, reverse-append, take-append-drop, drop_at, take-map}
+use Rattle.std.proofs.lemmas.List.{length-append, length-reverse, length-take, reverse-append, take-append-drop, drop_at, take-map, map_push}
 use Rattle.std.specs.List.{find}
 use Rattle.std.specs.Option.{option_map}
-use Rattle.indexmap.proofs.ReorderLemmas.{map-reverse}
 use Rattle.xs_names.specs.declared.scope.ScopeBinding.{ScopeBinding}
 use Rattle.xs_names.specs.Scope.{prefix_and_space, binding_of, oldest}
 
@@ -13,6 +12,11 @@ reverse-take n xs =
     let parts : reverse xs ≡ reverse (drop n xs) ++ reverse (take n xs) = ap reverse (sym (take-append-drop n xs)) ∙ reverse-append (take n xs) (drop n xs) in
     let behind : length (reverse (drop n xs)) ≡ length xs - n = length-reverse (drop n xs) ∙ omega (arith, length-append (take n xs) (drop n xs), ap length (take-append-drop n xs), length-take n xs) in
     sym (ap (drop (length xs - n)) parts ∙ drop_at (reverse (drop n xs)) (reverse (take n xs)) (length xs - n) behind)
+
+-- what is made of each of a reverse
+pub map-reverse : {X Y : Type 0} (f : X → Y) (xs : List X) → map f (reverse xs) ≡ reverse (map f xs)
+map-reverse f [] = refl
+map-reverse f (x ∷ xs) = ap (map f) (reverse-append (x ∷ []) xs) ∙ map_push f (reverse xs) x ∙ ap (λ l. l ++ f x ∷ []) (map-reverse f xs) ∙ sym (reverse-append (f x ∷ []) (map f xs))
 
 pub oldest-take : {X : Type 0} (view : X → List ℕ × ℕ) (n : ℕ) (xs : List X) → reverse (map view (take n xs)) ≡ oldest n (reverse (map view xs))
 oldest-take view n xs =
