@@ -21,7 +21,6 @@ use xs_names::{NameId, Names, Scope, Text};
 
 /// A document that is edited in place. Contracts see the node of each number that was given out; these stand for one
 /// tree under a table of names.
-#[derive(Drop)]
 pub struct DocTree {
     links: NodeLinks,
     /// How many nodes there are.
@@ -479,5 +478,16 @@ impl DocTree {
         let taken = count_put_back(&back);
         self.count = (self.count as usize + put - taken) as u32;
         Ok(back)
+    }
+}
+
+impl Drop for DocTree {
+    fn drop(self) {
+        let DocTree {
+            links,
+            count: _,
+            alloc: _,
+        } = self;
+        drop(links);
     }
 }

@@ -21,7 +21,6 @@ use xs_lists::Listed;
 use xs_names::Scope;
 
 /// The simple types of a set and the simple contents of its complex types, ready to judge texts.
-#[derive(Drop)]
 pub struct SimpleTypes {
     simples: Listed<JudgedType>,
     complexes: Listed<JudgedType>,
@@ -135,5 +134,13 @@ fn value_of(outcome: Result<Accepted, Code>) -> Result<Value, Code>
     match outcome {
         Ok(accepted) => Ok(accepted.value),
         Err(code) => Err(code),
+    }
+}
+
+impl Drop for SimpleTypes {
+    fn drop(self) {
+        let SimpleTypes { simples, complexes } = self;
+        drop(simples);
+        drop(complexes);
     }
 }

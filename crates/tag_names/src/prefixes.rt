@@ -69,7 +69,6 @@ fn latest_among<'a>(entries: &'a [Entry], prefix: &str) -> Option<&'a Text>
 /// The empty prefix stands for the default namespace. Before an element's bindings `len` tells where its scope began, and
 /// after the element `truncate` goes back there. A prefix is looked up in a time that does not grow with the bindings
 /// (expected, by hashing).
-#[derive(Drop)]
 pub struct Prefixes {
     alloc: Global,
     /// The bindings in the order of coming.
@@ -269,5 +268,17 @@ impl Prefixes {
         ensures { IfOk result (λ copy. copy ≡ self.now) }
     {
         bound_copies(alloc, self.entries.as_slice())
+    }
+}
+
+impl Drop for Prefixes {
+    fn drop(self) {
+        let Prefixes {
+            alloc: _,
+            entries,
+            latest,
+        } = self;
+        drop(entries);
+        drop(latest);
     }
 }

@@ -16,7 +16,6 @@ pub const XMLNS_NAMESPACE: &str = "http://www.w3.org/2000/xmlns/";
 /// Namespaces, and names in them, by number. Numbers are given in the order of coming and never change.
 ///
 /// The empty namespace name is that of the absent namespace.
-#[derive(Drop)]
 pub struct Names {
     spaces: NumberedTexts,
     locals: NumberedTexts,
@@ -137,5 +136,18 @@ impl Names {
         } else {
             Some(self.spaces.get(ns.number))
         }
+    }
+}
+
+impl Drop for Names {
+    fn drop(self) {
+        let Names {
+            spaces,
+            locals,
+            pairs,
+        } = self;
+        drop(spaces);
+        drop(locals);
+        drop(pairs);
     }
 }

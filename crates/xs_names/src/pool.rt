@@ -6,7 +6,6 @@ use std::collections::HashSet;
 use std::rc::RcStr;
 
 /// Texts that came, each kept once, so that a text that comes again shares the characters of the one before.
-#[derive(Drop)]
 pub struct TextPool {
     alloc: Global,
     texts: HashSet<RcStr>,
@@ -33,5 +32,12 @@ impl TextPool {
         let inner = RcStr::from_str(self.alloc, text)?;
         self.texts.insert(inner.clone()?)?;
         Ok(Text { inner })
+    }
+}
+
+impl Drop for TextPool {
+    fn drop(self) {
+        let TextPool { alloc: _, texts } = self;
+        drop(texts);
     }
 }

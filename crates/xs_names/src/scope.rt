@@ -12,7 +12,6 @@ pub struct Unbound;
 
 /// A prefix with the number of its namespace. The empty prefix is the default namespace; under the absent namespace it is
 /// undeclared.
-#[derive(Drop)]
 pub struct ScopeBinding {
     pub prefix: Text,
     pub ns: NsId,
@@ -32,7 +31,6 @@ fn latest_binding<'a>(bindings: &'a [ScopeBinding], prefix: &str) -> Option<&'a 
 ///
 /// The empty prefix stands for the default namespace. Before an element's bindings `len` tells where its scope began, and
 /// after the element `truncate` goes back there.
-#[derive(Drop)]
 pub struct Scope {
     bindings: Vec<ScopeBinding>,
 }
@@ -132,5 +130,19 @@ impl Scope {
         ensures back { (later earlier : List (List ℕ × ℕ)) → self.old ≡ later ++ earlier → length earlier ≡ len → self.new ≡ earlier }
     {
         self.bindings.truncate(len);
+    }
+}
+
+impl Drop for Scope {
+    fn drop(self) {
+        let Scope { bindings } = self;
+        drop(bindings);
+    }
+}
+
+impl Drop for ScopeBinding {
+    fn drop(self) {
+        let ScopeBinding { prefix, ns: _ } = self;
+        drop(prefix);
     }
 }
