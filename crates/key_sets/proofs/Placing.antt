@@ -1,17 +1,14 @@
 -- Places of keys, when one more comes last.
-use Rattle.std.proofs.Common.{◌≡◌, ℕ, ◌+◌, ◌<◌, Bool, true, false, cond, not, List, [], ◌∷◌, ◌++◌, length, map, Option, Some, None, position, bytes_eq, if◌then◌else◌, refl, sym, ap, subst, ◌∙◌, arith}
+use Rattle.std.proofs.Common.{◌≡◌, ℕ, ◌+◌, ◌<◌, Bool, true, false, cond, List, [], ◌∷◌, ◌++◌, length, Option, Some, None, position, bytes_eq, refl, sym, ap, subst, ◌∙◌, arith}
 use Rattle.std.specs.Cmp.{IsEquivalence}
 use Rattle.std.specs.Cmp.Lexicographic.{nat_list_eq_equiv}
 use Rattle.std.specs.List.{list_any, position_from}
 use Rattle.std.specs.Map.{lookup, IsKeyTest, AreApart, KeepsOthers}
-use Rattle.std.specs.Option.{is_some}
-use Rattle.std.specs.Rc.{rc_str_bytes}
+use Rattle.std.specs.Prelude.{is_some, IfSome}
 use Rattle.std.proofs.lemmas.Iterator.Adapters.{position_from-zero}
-use Rattle.std.proofs.lemmas.List.{map_push}
-use Rattle.std.proofs.lemmas.Option.{none-some}
+use Rattle.std.proofs.lemmas.Option.{none-some, same_Some}
 use Rattle.std.proofs.lemmas.Slice.Eq.{bytes_eq-Decides}
-use Rattle.std_alloc.specs.declared.wrapped.RcStr.{RcStr}
-use Rattle.key_sets.specs.Keys.{with_key, ArePlaces, bytes_of, AreTextPlaces}
+use Rattle.key_sets.specs.Keys.{with_key, ArePlaces, AreTextPlaces}
 
 module _ {X : Type 0} (test : X → Bool) where
   -- what is found from a place, in front of one item and of all
@@ -60,6 +57,24 @@ module _ {X : Type 0} (test : X → Bool) where
   pub any-present : (n : ℕ) (xs : List X) → position test xs ≡ Some n → list_any test xs ≡ true
   any-present n xs e = any-some 0 n xs (sym (position_from-zero test xs) ∙ e)
 
+  -- whether an item passes, by what is found
+  pub any-found : (xs : List X) (found : Option ℕ) → found ≡ position test xs → is_some found ≡ list_any test xs
+  any-found xs None e = sym (any-absent xs (sym e))
+  any-found xs (Some n) e = sym (any-present n xs (sym e))
+
+  -- what is found is within
+  from-within : (i n : ℕ) (xs : List X) → position_from test i xs ≡ Some n → n < i + length xs
+  from-within i n [] e = absurd (none-some n e)
+  from-within i n (y ∷ ys) e = by (test y) refl (from-within (i + 1) n ys)
+    where
+      by : (b : Bool) → test y ≡ b → (position_from test (i + 1) ys ≡ Some n → n < i + 1 + length ys) → n < i + length (y ∷ ys)
+      by true f rest = let here : i ≡ n = same_Some i n (sym (ap (λ b. cond b (Some i) (position_from test (i + 1) ys)) f) ∙ e) in omega (arith, here)
+      by false f rest = omega (arith, rest (sym (ap (λ b. cond b (Some i) (position_from test (i + 1) ys)) f) ∙ e))
+
+  pub found-within : (xs : List X) (found : Option ℕ) → found ≡ position test xs → IfSome found (λ n. n < length xs)
+  found-within xs None e = tt
+  found-within xs (Some n) e = omega (arith, from-within 0 n xs (sym (position_from-zero test xs) ∙ sym e))
+
 module _ {K : Type 0} (eq : K → K → Bool) where
   -- a key that is there, and one that is not
   pub with_key-old : (keys : List K) (key : K) (n : ℕ) → position (eq key) keys ≡ Some n → with_key eq keys key ≡ keys
@@ -90,21 +105,20 @@ unfolding KeepsOthers
 other_entries eq test old new h = h
 
 -- the places with a new text
-pub text_places-more : {Z : Type 0} (texts : List (List ℕ)) (key : RcStr Z) (old new : List (RcStr Z × ℕ)) → position (bytes_eq (rc_str_bytes key)) texts ≡ None
-    → lookup (λ k. bytes_eq (rc_str_bytes key) (rc_str_bytes k)) new ≡ Some (length texts)
-    → KeepsOthers (λ x y. bytes_eq (rc_str_bytes x) (rc_str_bytes y)) (λ k. bytes_eq (rc_str_bytes key) (rc_str_bytes k)) old new
-    → AreTextPlaces texts old → AreTextPlaces (texts ++ rc_str_bytes key ∷ []) new
-text_places-more {Z} texts key old new absent here others places text = by (bytes_eq bytes text) refl
-  where
-    bytes : List ℕ
-    bytes = rc_str_bytes key
-
-    by : (b : Bool) → bytes_eq bytes text ≡ b → lookup (λ k. bytes_eq text (rc_str_bytes k)) new ≡ position (bytes_eq text) (texts ++ bytes ∷ [])
-    by true e =
-        subst (λ t. lookup (λ (k : RcStr Z). bytes_eq t (rc_str_bytes k)) new ≡ position (bytes_eq t) (texts ++ bytes ∷ [])) ((bytes_eq-Decides bytes text).0 e)
-        (here ∙ sym (position-new (bytes_eq bytes) texts bytes absent (nat_list_eq_equiv.refl bytes)))
-    by false e =
-        let turned : bytes_eq text bytes ≡ false = nat_list_eq_equiv.symm text bytes ∙ e in
-        other_entries _ _ old new others (λ k. bytes_eq text (rc_str_bytes k)) (λ x y. nat_list_eq_equiv.congr text (rc_str_bytes x) (rc_str_bytes y))
-        (λ k t. nat_list_eq_equiv.symm text (rc_str_bytes k) ∙ sym (nat_list_eq_equiv.congr bytes (rc_str_bytes k) text t) ∙ e)
-        ∙ places text ∙ sym (position-failed (bytes_eq text) texts bytes turned)
+module _ {K : Type 0} (bytes : K → List ℕ) where
+  pub text_places-more : (texts : List (List ℕ)) (key : K) (old new : List (K × ℕ)) → position (bytes_eq (bytes key)) texts ≡ None
+      → lookup (λ k. bytes_eq (bytes key) (bytes k)) new ≡ Some (length texts)
+      → KeepsOthers (λ x y. bytes_eq (bytes x) (bytes y)) (λ k. bytes_eq (bytes key) (bytes k)) old new
+      → AreTextPlaces bytes texts old → AreTextPlaces bytes (texts ++ bytes key ∷ []) new
+  text_places-more texts key old new absent here others places text = by (bytes_eq (bytes key) text) refl
+    where
+      by : (b : Bool) → bytes_eq (bytes key) text ≡ b → lookup (λ k. bytes_eq text (bytes k)) new ≡ position (bytes_eq text) (texts ++ bytes key ∷ [])
+      by true e =
+          subst (λ (t : List ℕ). lookup (λ k. bytes_eq t (bytes k)) new ≡ position (bytes_eq t) (texts ++ bytes key ∷ [])) ((bytes_eq-Decides (bytes key) text).0 e)
+          (here ∙ sym (position-new (bytes_eq (bytes key)) texts (bytes key) absent (nat_list_eq_equiv.refl (bytes key))))
+      by false e =
+          let turned : bytes_eq text (bytes key) ≡ false = nat_list_eq_equiv.symm text (bytes key) ∙ e in
+          other_entries (λ x y. bytes_eq (bytes x) (bytes y)) (λ k. bytes_eq (bytes key) (bytes k)) old new others (λ k. bytes_eq text (bytes k))
+          (λ x y. nat_list_eq_equiv.congr text (bytes x) (bytes y))
+          (λ k t. nat_list_eq_equiv.symm text (bytes k) ∙ sym (nat_list_eq_equiv.congr (bytes key) (bytes k) text t) ∙ e)
+          ∙ places text ∙ sym (position-failed (bytes_eq text) texts (bytes key) turned)

@@ -16,14 +16,15 @@ pub struct TextSet {
 }
 
 impl Model for TextSet {
-    ghost use Rattle.std.specs.Prelude.{ℕ, List};
-    ghost use Rattle.key_sets.specs.Keys.{bytes_of, AreTextPlaces};
+    ghost use Rattle.std.specs.Prelude.{ℕ, List, map};
+    ghost use Rattle.std.specs.Rc.{rc_str_bytes};
+    ghost use Rattle.key_sets.specs.Keys.{AreTextPlaces};
 
     ghost Value = { List (List ℕ) };
 
-    ghost view = { λ s. bytes_of s.texts.items };
+    ghost view = { λ s. map rc_str_bytes s.texts.items };
 
-    ghost invariant = { λ s. AreTextPlaces (bytes_of s.texts.items) s.places.entries };
+    ghost invariant = { λ s. AreTextPlaces rc_str_bytes (map rc_str_bytes s.texts.items) s.places.entries };
 }
 
 impl TextSet {
