@@ -1,8 +1,7 @@
-//! Reads a table of decimals, moments and durations, and writes what each line comes to.
+//! A table of decimals, moments and durations: what each line comes to.
 //!
 //! A line of the input is `TYPE|LITERAL`, and its answer the value or the fault; or it is `TYPE|LITERAL|LITERAL`, and its answer
 //! how the first stands to the second, and the second to the first.
-#![tactic(auto)]
 
 use dec_value::Dec;
 use std::io;
@@ -111,11 +110,8 @@ fn answer(rt: &impl Print, line: &str) -> io::Result<()> {
     }
 }
 
-fn main(rt: HostRuntime) -> io::Result<()> {
-    for line in rt.lines(rt.alloc()) {
-        let line = line?;
-        print!(rt; "{line}: ")?;
-        answer(&rt, line.as_str())?;
-    }
-    Ok(())
+/// Writes a line, and the answer to it.
+pub fn write_answer(rt: &impl Print, line: &str) -> io::Result<()> {
+    print!(rt; "{line}: ")?;
+    answer(rt, line)
 }

@@ -1,21 +1,11 @@
-// Reads lines such as `pattern<TAB>a{2,1}` and `match<TAB>a*<TAB>aaa`, in which `%HEX;` stands for a character, and prints for
-// each what reading the pattern answers, or whether the text matches it.
-#![tactic(auto)]
+//! Reads lines such as `pattern<TAB>a{2,1}` and `match<TAB>a*<TAB>aaa`, in which `%HEX;` stands for a character, and prints for
+//! each what reading the pattern answers, or whether the text matches it.
 
 use pattern_syntax::PatternFault;
 use std::alloc::{AllocError, Global};
-use std::io;
 use xs_regex::Pattern;
 
-fn main(rt: HostRuntime) -> io::Result<()> {
-    for line in rt.lines(rt.alloc()) {
-        let answer = answer_to(rt.alloc(), line?.as_str())?;
-        println!(rt; "{answer}")?;
-    }
-    Ok(())
-}
-
-fn answer_to(alloc: Global, line: &str) -> Result<String, AllocError> {
+pub fn answer(alloc: Global, line: &str) -> Result<String, AllocError> {
     let mut columns = line.split('\t');
     let kind = columns.next().unwrap_or("");
     let pattern = plain(alloc, columns.next().unwrap_or(""))?;
