@@ -1,11 +1,12 @@
 -- Places of keys, when one more comes last.
-use Rattle.std.proofs.Common.{◌≡◌, ℕ, ◌+◌, ◌<◌, Bool, true, false, cond, List, [], ◌∷◌, ◌++◌, length, Option, Some, None, position, bytes_eq, refl, sym, ap, subst, ◌∙◌, arith}
+use Rattle.std.proofs.Common.{◌≡◌, ℕ, ◌+◌, ◌<◌, Bool, true, false, cond, List, [], ◌∷◌, ◌++◌, length, map, Option, Some, None, position, bytes_eq, refl, sym, ap, subst, ◌∙◌, arith}
 use Rattle.std.specs.Cmp.{IsEquivalence}
 use Rattle.std.specs.Cmp.Lexicographic.{nat_list_eq_equiv}
 use Rattle.std.specs.List.{list_any, position_from}
 use Rattle.std.specs.Map.{lookup, IsKeyTest, AreApart, KeepsOthers}
 use Rattle.std.specs.Prelude.{is_some, IfSome}
 use Rattle.std.proofs.lemmas.Iterator.Adapters.{position_from-zero}
+use Rattle.std.proofs.lemmas.List.{map_push}
 use Rattle.std.proofs.lemmas.Option.{none-some, same_Some}
 use Rattle.std.proofs.lemmas.Slice.Eq.{bytes_eq-Decides}
 use Rattle.key_sets.specs.Keys.{with_key, ArePlaces, AreTextPlaces}
@@ -122,3 +123,7 @@ module _ {K : Type 0} (bytes : K → List ℕ) where
           (λ x y. nat_list_eq_equiv.congr text (bytes x) (bytes y))
           (λ k t. nat_list_eq_equiv.symm text (bytes k) ∙ sym (nat_list_eq_equiv.congr (bytes key) (bytes k) text t) ∙ e)
           ∙ places text ∙ sym (position-failed (bytes_eq text) texts (bytes key) turned)
+
+  -- the texts with a copy of one more
+  pub texts-more : (keys new : List K) (copy : K) (text : List ℕ) → new ≡ keys ++ copy ∷ [] → bytes copy ≡ text → map bytes new ≡ map bytes keys ++ text ∷ []
+  texts-more keys new copy text put same = ap (map bytes) put ∙ map_push bytes keys copy ∙ ap (λ t. map bytes keys ++ t ∷ []) same

@@ -1,5 +1,6 @@
-use Rattle.std.proofs.Common.{◌≡◌, Some, None, cond, not, position, length, arith, ap, sym, ◌∙◌}
+use Rattle.std.proofs.Common.{◌≡◌, ◌∷◌, [], Some, None, cond, not, position, length, arith, ap, sym, ◌∙◌}
 use Rattle.std.specs.Map.{lookup}
+use Rattle.std.proofs.lemmas.List.{length-append}
 use Rattle.key_sets.proofs.Placing.{any-absent, any-present, with_key-old, with_key-new, places-more}
 use Rattle.key_sets.proofs.keys.KeySet.insert.Goals as goal
 
@@ -27,3 +28,6 @@ invariant_of-self-in-Ok g c =
     rw c.in_ok-push.ensures.items
     (places-more eq g.met.T.Eq.laws keys c.args.key c.self.inside.places.entries c.insert.new.self.entries absent
     (λ other. c.in-Ok.ensures.updates.0 other ∙ ap (λ n. cond (eq c.args.key other) (Some n) (lookup (eq other) c.self.inside.places.entries)) place) c.self.invariant)
+
+pub returns-in-Ok-clause-len : goal.returns-in-Ok-clause-len
+returns-in-Ok-clause-len g c = rw (← c.self.view_is) (ap length c.in_ok-push.ensures.items ∙ length-append c.self.inside.keys.items (c.args.key ∷ []))

@@ -1,8 +1,8 @@
-use Rattle.std.proofs.Common.{◌≡◌, ◌++◌, ◌∷◌, [], Some, None, not, map, position, bytes_eq, length, arith, ap, subst, sym, ◌∙◌, List, ℕ}
+use Rattle.std.proofs.Common.{◌≡◌, ◌++◌, ◌∷◌, [], List, ℕ, Some, None, not, map, position, bytes_eq, length, arith, ap, subst, sym, ◌∙◌}
 use Rattle.std.specs.Rc.{rc_str_bytes}
-use Rattle.std.proofs.lemmas.List.{length-map, map_push}
+use Rattle.std.proofs.lemmas.List.{length-append, length-map}
 use Rattle.key_sets.specs.Keys.{AreTextPlaces}
-use Rattle.key_sets.proofs.Placing.{any-absent, any-present, with_key-old, with_key-new, text_places-more}
+use Rattle.key_sets.proofs.Placing.{any-absent, any-present, with_key-old, with_key-new, text_places-more, texts-more}
 use Rattle.key_sets.proofs.texts.TextSet.insert.Goals as goal
 
 pub returns-in-Some-clause-added : goal.returns-in-Some-clause-added
@@ -16,21 +16,27 @@ returns-in-Ok-clause-added c = ap not (sym (any-absent (bytes_eq c.args.text.now
 
 pub returns-in-Ok-clause-keys : goal.returns-in-Ok-clause-keys
 returns-in-Ok-clause-keys c =
-    let texts = map rc_str_bytes c.self.inside.texts.items in
-    let absent : position (bytes_eq c.args.text.now) texts ≡ None = rw c.self.view_is (sym c.in_default.ensures.index) in
-    let grown : map rc_str_bytes c.push.new.self.items ≡ texts ++ c.args.text.now ∷ [] =
-    ap (map rc_str_bytes) c.in_ok-push.ensures.items ∙ map_push rc_str_bytes c.self.inside.texts.items c.in_ok-clone.field-0
-    ∙ ap (λ t. texts ++ t ∷ []) (c.in_ok-clone.ensures.cases ∙ c.in_ok-key.ensures.ok) in
-    rw (← c.self.view_is) (grown ∙ sym (with_key-new bytes_eq texts c.args.text.now absent))
+    let keys = c.self.inside.texts.items in
+    let text = c.args.text.now in
+    let absent : position (bytes_eq text) (map rc_str_bytes keys) ≡ None = rw c.self.view_is (sym c.in_default.ensures.index) in
+    let grown = texts-more rc_str_bytes keys c.push.new.self.items c.in_ok-clone.field-0 text c.in_ok-push.ensures.items (c.in_ok-clone.ensures.cases ∙ c.in_ok-key.ensures.ok) in
+    rw (← c.self.view_is) (grown ∙ sym (with_key-new bytes_eq (map rc_str_bytes keys) text absent))
+
+pub returns-in-Ok-clause-len : goal.returns-in-Ok-clause-len
+returns-in-Ok-clause-len c =
+    let keys = c.self.inside.texts.items in
+    let text = c.args.text.now in
+    let grown = texts-more rc_str_bytes keys c.push.new.self.items c.in_ok-clone.field-0 text c.in_ok-push.ensures.items (c.in_ok-clone.ensures.cases ∙ c.in_ok-key.ensures.ok) in
+    rw (← c.self.view_is) (ap length grown ∙ length-append (map rc_str_bytes keys) (text ∷ []))
 
 pub invariant_of-self-in-Ok : goal.invariant_of-self-in-Ok
 invariant_of-self-in-Ok c =
-    let texts = map rc_str_bytes c.self.inside.texts.items in
+    let keys = c.self.inside.texts.items in
+    let texts = map rc_str_bytes keys in
     let key = c.in_ok-key.key in
     let of_text : position (bytes_eq c.args.text.now) texts ≡ None = rw c.self.view_is (sym c.in_default.ensures.index) in
     let absent : position (bytes_eq (rc_str_bytes key)) texts ≡ None = subst (λ (t : List ℕ). position (bytes_eq t) texts ≡ None) (sym c.in_ok-key.ensures.ok) of_text in
-    let place : c.len-place.result ≡ length texts = omega (arith, c.len-place.ensures, c.self.inside.texts.ok.0, length-map c.self.inside.texts.items rc_str_bytes) in
-    let grown : map rc_str_bytes c.push.new.self.items ≡ texts ++ rc_str_bytes key ∷ [] =
-    ap (map rc_str_bytes) c.in_ok-push.ensures.items ∙ map_push rc_str_bytes c.self.inside.texts.items c.in_ok-clone.field-0 ∙ ap (λ t. texts ++ t ∷ []) c.in_ok-clone.ensures.cases in
+    let place : c.len-place.result ≡ length texts = omega (arith, c.len-place.ensures, c.self.inside.texts.ok.0, length-map keys rc_str_bytes) in
+    let grown = texts-more rc_str_bytes keys c.push.new.self.items c.in_ok-clone.field-0 (rc_str_bytes key) c.in_ok-push.ensures.items c.in_ok-clone.ensures.cases in
     subst (λ (ts : List (List ℕ)). AreTextPlaces rc_str_bytes ts c.insert.new.self.entries) (sym grown)
     (text_places-more rc_str_bytes texts key c.self.inside.places.entries c.insert.new.self.entries absent (c.in-Ok.ensures.updates.1 ∙ ap Some place) c.in-Ok.ensures.updates.3 c.self.invariant)
