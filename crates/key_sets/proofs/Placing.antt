@@ -4,7 +4,7 @@ use Rattle.std.specs.Cmp.{IsEquivalence}
 use Rattle.std.specs.Cmp.Lexicographic.{nat_list_eq_equiv}
 use Rattle.std.specs.List.{list_any, position_from}
 use Rattle.std.specs.Map.{lookup, IsKeyTest, AreApart, KeepsOthers}
-use Rattle.std.specs.Prelude.{is_some, IfSome}
+use Rattle.std.specs.Prelude.{IfSome}
 use Rattle.std.proofs.lemmas.Iterator.Adapters.{position_from-zero}
 use Rattle.std.proofs.lemmas.List.{map_push}
 use Rattle.std.proofs.lemmas.Option.{none-some, same_Some}
@@ -57,11 +57,6 @@ module _ {X : Type 0} (test : X → Bool) where
 
   pub any-present : (n : ℕ) (xs : List X) → position test xs ≡ Some n → list_any test xs ≡ true
   any-present n xs e = any-some 0 n xs (sym (position_from-zero test xs) ∙ e)
-
-  -- whether an item passes, by what is found
-  pub any-found : (xs : List X) (found : Option ℕ) → found ≡ position test xs → is_some found ≡ list_any test xs
-  any-found xs None e = sym (any-absent xs (sym e))
-  any-found xs (Some n) e = sym (any-present n xs (sym e))
 
   -- what is found is within
   from-within : (i n : ℕ) (xs : List X) → position_from test i xs ≡ Some n → n < i + length xs

@@ -62,13 +62,6 @@ impl<T: Copy + Eq + Hash> KeySet<T> {
         self.places.get(key).copied()
     }
 
-    /// Whether a key is there.
-    pub fn contains(&self, key: &T) -> bool
-        ensures { result ≡ list_any (T.eq key.now) self.now }
-    {
-        self.get_index_of(key).is_some()
-    }
-
     /// Puts a key in, which has the next number where it was not there, and says whether it is new.
     pub fn insert(&mut self, key: T) -> Result<bool, AllocError>
         ensures added { IfOk result (λ added. added ≡ not (list_any (T.eq key) self.old)) }

@@ -5,7 +5,7 @@ ghost use Rattle.std.specs.List.Sorted.{IsNonDecreasingBy};
 ghost use Rattle.component_references.specs.Ranked.{IsRanked};
 ghost use Rattle.particle_forms.specs.Made.{parts_of, Visits, AreAllParts};
 
-use key_sets::KeySet;
+use indexmap::IndexSet;
 use std::alloc::{AllocError, Global};
 use xs_components::{Components, ParticleId, Term};
 
@@ -44,12 +44,12 @@ fn find_parts(
     alloc: Global,
     parts: &Components,
     root: ParticleId,
-) -> Result<KeySet<u32>, AllocError>
+) -> Result<IndexSet<u32>, AllocError>
     requires ranked { IsRanked parts.now }
     requires there { root < length parts.now.particles.parts }
-    ensures all { IfOk result (λ found. AreAllParts parts.now root found) }
+    ensures all { IfOk result (λ found. AreAllParts parts.now root found.keys) }
 {
-    let mut found = KeySet::new(alloc);
+    let mut found = IndexSet::new(alloc);
     let mut todo = Vec::new(alloc);
     todo.push(root)?;
     while let Some(id) = todo.pop() {
@@ -62,12 +62,12 @@ fn find_parts(
 fn visit(
     parts: &Components,
     id: ParticleId,
-    found: &mut KeySet<u32>,
+    found: &mut IndexSet<u32>,
     todo: &mut Vec<ParticleId>,
 ) -> Result<(), AllocError>
     requires ranked { IsRanked parts.now }
     requires there { id < length parts.now.particles.parts }
-    ensures { OnOk result (Visits parts.now id found.old found.new todo.old.items todo.new.items) }
+    ensures { OnOk result (Visits parts.now id found.old.keys found.new.keys todo.old.items todo.new.items) }
 {
     if found.contains(&id.number()) {
         return Ok(());

@@ -6,7 +6,7 @@ ghost use Rattle.component_references.specs.Ranked.{IsRanked};
 ghost use Rattle.particle_forms.specs.Made.{parts_of};
 ghost use Rattle.schema_models.specs.Found.{IsVisit, AreModelParts};
 
-use key_sets::KeySet;
+use indexmap::IndexSet;
 use std::alloc::{AllocError, Global};
 use xs_components::{Components, ParticleId, Term};
 
@@ -15,12 +15,12 @@ pub(crate) fn find_parts(
     alloc: Global,
     parts: &Components,
     root: ParticleId,
-) -> Result<KeySet<u32>, AllocError>
+) -> Result<IndexSet<u32>, AllocError>
     requires ranked { IsRanked parts.now }
     requires there { root < length parts.now.particles.parts }
-    ensures { IfOk result (λ found. AreModelParts parts.now root found) }
+    ensures { IfOk result (λ found. AreModelParts parts.now root found.keys) }
 {
-    let mut found = KeySet::new(alloc);
+    let mut found = IndexSet::new(alloc);
     let mut todo = Vec::new(alloc);
     todo.push(root)?;
     while let Some(id) = todo.pop() {
@@ -33,12 +33,12 @@ pub(crate) fn find_parts(
 fn visit(
     parts: &Components,
     id: ParticleId,
-    found: &mut KeySet<u32>,
+    found: &mut IndexSet<u32>,
     todo: &mut Vec<ParticleId>,
 ) -> Result<(), AllocError>
     requires ranked { IsRanked parts.now }
     requires there { id < length parts.now.particles.parts }
-    ensures { OnOk result (IsVisit parts.now id found.old found.new todo.old.items todo.new.items) }
+    ensures { OnOk result (IsVisit parts.now id found.old.keys found.new.keys todo.old.items todo.new.items) }
 {
     if found.contains(&id.number()) {
         return Ok(());

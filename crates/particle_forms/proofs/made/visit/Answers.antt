@@ -7,11 +7,11 @@ use Rattle.particle_forms.proofs.made.visit.Goals as goal
 
 pub returns-then-contains : goal.returns-then-contains
 returns-then-contains c =
-    visits-again c.args.parts.now c.requires.ranked c.args.id c.args.found.now c.args.todo.now.items
-    (subst (λ n. list_any (nat_eq n) c.args.found.now ≡ true) c.number.ensures (sym c.contains.ensures ∙ c.if-contains.true))
+    visits-again c.args.parts.now c.requires.ranked c.args.id c.args.found.now.keys c.args.todo.now.items
+    (subst (λ n. list_any (nat_eq n) c.args.found.now.keys ≡ true) c.number.ensures (sym c.contains.ensures ∙ c.if-contains.true))
 
 pub returns : goal.returns
 returns c =
     when_ok c.push_parts.result _ _ c.push_parts.ensures
-    (λ f. visits-new c.args.parts.now c.requires.ranked c.args.id c.args.found.now c.args.todo.now.items c.insert.new.self c.push_parts.new.todo.items
-    (inserted c.args.found.now c.insert.new.self c.number.result c.number-2.result c.args.id c.contains.result c.number.ensures c.number-2.ensures c.contains.ensures c.if-contains.false c.in_ok-insert.ensures.keys) f)
+    (λ f. visits-new c.args.parts.now c.requires.ranked c.args.id c.args.found.now.keys c.args.todo.now.items c.insert.new.self.keys c.push_parts.new.todo.items
+    (inserted c.args.found.now.keys c.insert.new.self.keys c.number.result c.number-2.result c.args.id c.contains.result c.number.ensures c.number-2.ensures c.contains.ensures c.if-contains.false c.in_ok-insert.ensures.keys) f)
