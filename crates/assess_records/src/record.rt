@@ -20,7 +20,6 @@ pub struct ElementRecord {
 }
 
 /// What is found out about an attribute (Structures 3.2.5).
-#[derive(Drop)]
 pub struct AttrRecord {
     pub name: NameId,
     /// The governing type.
@@ -37,6 +36,20 @@ pub type AttrRecords = Listed<Shared<AttrRecord>>;
 impl Drop for ElementRecord {
     fn drop(self) {
         let ElementRecord {
+            name: _,
+            of: _,
+            validity: _,
+            attempted: _,
+            source: _,
+            codes,
+        } = self;
+        drop(codes);
+    }
+}
+
+impl Drop for AttrRecord {
+    fn drop(self) {
+        let AttrRecord {
             name: _,
             of: _,
             validity: _,
