@@ -7,7 +7,8 @@ use std::borrow::Borrow;
 use std::hash::Hash;
 pub mod indexmap {
     use super::*;
-    use std::hash::{BuildHasher, BuildHasherDefault, DefaultHasher, Hasher};
+    use rstd::collections::Fold;
+    use std::hash::{BuildHasher, BuildHasherDefault, Hasher};
     #[derive(Clone, Default)]
     pub struct Same(u64);
     impl Hasher for Same {
@@ -23,7 +24,7 @@ pub mod indexmap {
     }
     type Places = std::collections::HashMap<u64, std::vec::Vec<usize>, BuildHasherDefault<Same>>;
     fn hash_of<Q: ?Sized + Hash>(q: &Q) -> u64 {
-        let mut h = DefaultHasher::new();
+        let mut h = Fold::default();
         q.hash(&mut h);
         h.finish()
     }

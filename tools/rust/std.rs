@@ -301,9 +301,54 @@ macro_rules! rvec {
 pub mod collections {
     use crate::alloc::*;
     use std::borrow::Borrow;
-    use std::hash::Hash;
+    use std::hash::{BuildHasherDefault, Hash, Hasher};
+    /// Hashes as the kit's maps do, by folded products.
+    pub struct Fold(u64);
+    impl Default for Fold {
+        fn default() -> Self {
+            Fold(0x243f_6a88_85a3_08d3)
+        }
+    }
+    fn folded(a: u64, b: u64) -> u64 {
+        let product = a as u128 * b as u128;
+        product as u64 ^ (product >> 64) as u64
+    }
+    fn word(bytes: &[u8], at: usize) -> u64 {
+        u64::from_le_bytes(bytes[at..at + 8].try_into().unwrap())
+    }
+    fn short(bytes: &[u8]) -> u64 {
+        let len = bytes.len();
+        let half = |at: usize| u32::from_le_bytes(bytes[at..at + 4].try_into().unwrap()) as u64;
+        if len >= 4 {
+            half(0) | half(len - 4) << 32
+        } else if len > 0 {
+            bytes[0] as u64 | (bytes[len / 2] as u64) << 8 | (bytes[len - 1] as u64) << 16
+        } else {
+            0
+        }
+    }
+    const MULTIPLIER: u64 = 0x9e37_79b9_7f4a_7c15;
+    impl Hasher for Fold {
+        fn finish(&self) -> u64 {
+            self.0
+        }
+        fn write(&mut self, bytes: &[u8]) {
+            let len = bytes.len();
+            if len <= 8 {
+                self.0 = folded(self.0 ^ short(bytes), MULTIPLIER ^ (2 * len as u64));
+                return;
+            }
+            let mut state = self.0.wrapping_add(len as u64);
+            let mut at = 0;
+            while len - at > 16 {
+                state = folded(word(bytes, at) ^ state, word(bytes, at + 8) ^ MULTIPLIER);
+                at += 16;
+            }
+            self.0 = folded(word(bytes, len.saturating_sub(16)) ^ state, word(bytes, len - 8) ^ MULTIPLIER);
+        }
+    }
     #[derive(Clone, Debug)]
-    pub struct HashMap<K, V>(std::collections::HashMap<K, V>);
+    pub struct HashMap<K, V>(std::collections::HashMap<K, V, BuildHasherDefault<Fold>>);
     impl<K: Eq + Hash, V> HashMap<K, V> {
         pub fn new(_: Global) -> Self {
             HashMap(Default::default())
@@ -346,7 +391,7 @@ pub mod collections {
         }
     }
     #[derive(Clone, Debug)]
-    pub struct HashSet<K>(std::collections::HashSet<K>);
+    pub struct HashSet<K>(std::collections::HashSet<K, BuildHasherDefault<Fold>>);
     impl<K: Eq + Hash> HashSet<K> {
         pub fn new(_: Global) -> Self {
             HashSet(Default::default())

@@ -9,7 +9,6 @@ use xs_names::NameId;
 pub type Codes = Listed<Found>;
 
 /// What is found out about an element (Structures 3.3.5).
-#[derive(Drop)]
 pub struct ElementRecord {
     pub name: NameId,
     /// The governing type.
@@ -21,7 +20,6 @@ pub struct ElementRecord {
 }
 
 /// What is found out about an attribute (Structures 3.2.5).
-#[derive(Drop)]
 pub struct AttrRecord {
     pub name: NameId,
     /// The governing type.
@@ -34,3 +32,31 @@ pub struct AttrRecord {
 
 /// The records of an element's attributes: the given ones in document order, then those that the schema adds.
 pub type AttrRecords = Listed<Shared<AttrRecord>>;
+
+impl Drop for ElementRecord {
+    fn drop(self) {
+        let ElementRecord {
+            name: _,
+            of: _,
+            validity: _,
+            attempted: _,
+            source: _,
+            codes,
+        } = self;
+        drop(codes);
+    }
+}
+
+impl Drop for AttrRecord {
+    fn drop(self) {
+        let AttrRecord {
+            name: _,
+            of: _,
+            validity: _,
+            attempted: _,
+            source: _,
+            codes,
+        } = self;
+        drop(codes);
+    }
+}

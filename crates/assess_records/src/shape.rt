@@ -3,7 +3,6 @@ use xs_lists::Listed;
 use xs_names::{NameId, Scope, Text};
 
 /// An attribute of an element: its name, and the text of its value.
-#[derive(Drop)]
 pub struct NamedText {
     pub name: NameId,
     pub text: Text,
@@ -30,4 +29,11 @@ pub struct ElementShape {
     pub ids: Codes,
     /// How many of its child elements have each validity, and each attempt at validation.
     pub counts: ChildCounts,
+}
+
+impl Drop for NamedText {
+    fn drop(self) {
+        let NamedText { name: _, text } = self;
+        drop(text);
+    }
 }

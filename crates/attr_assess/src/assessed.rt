@@ -59,7 +59,7 @@ pub fn assess_attrs(
     ensures assessed { IfOk result (AreAttrsAssessed schema.now.names.now schema.now.parts.now of scope.now attrs.now) }
     ensures same { types.new ≡ types.old }
 {
-    let mut assessed = AssessedAttrs::new(alloc);
+    let mut assessed = AssessedAttrs::with_room(alloc, attrs.len())?;
     match assessed.add_all(alloc, schema, types, &of, attrs, scope) {
         Ok(()) => Ok(assessed),
         Err(error) => Err(error),
@@ -67,16 +67,19 @@ pub fn assess_attrs(
 }
 
 impl AssessedAttrs {
-    fn new(alloc: Global) -> AssessedAttrs
-        ensures records { result.records ≡ [] }
-        ensures values { result.values ≡ [] }
-        ensures missing { result.missing ≡ [] }
+    // Nothing assessed yet, with room for so many attributes.
+    fn with_room(alloc: Global, count: usize) -> Result<AssessedAttrs, AllocError>
+        ensures records { IfOk result (λ assessed. assessed.records ≡ []) }
+        ensures values { IfOk result (λ assessed. assessed.values ≡ []) }
+        ensures missing { IfOk result (λ assessed. assessed.missing ≡ []) }
     {
-        AssessedAttrs {
-            records: AttrRecords::new(alloc),
-            values: AttrValues::new(alloc),
+        let records = Vec::with_capacity(alloc, count)?;
+        let values = Vec::with_capacity(alloc, count)?;
+        Ok(AssessedAttrs {
+            records: AttrRecords::from_vec(records),
+            values: AttrValues::from_vec(values),
             missing: NameIdList::new(alloc),
-        }
+        })
     }
 
     // Adds the attributes that the element has, and what it lacks.

@@ -1,6 +1,6 @@
 ghost use Rattle.std.specs.Prelude.{◌≡◌, ℕ, ◌+◌, ◌^◌, ◌<◌, ◌≤◌, ◌↔◌, Option, length, IsTrue, IfSome, true, IfOk, OnOk};
 ghost use Rattle.std.specs.Option.{option_map};
-ghost use Rattle.attr_uses.specs.Nodes.{find, IsMap, AreNodes};
+ghost use Rattle.attr_uses.specs.Nodes.{find, node_at, node_left, node_right, IsMap, AreNodes};
 ghost use Rattle.attr_uses.specs.Maps.{IsMapOf, SomeIs, TwoAre, AreNeeded, ArePut, IsNextUnlike};
 ghost use Rattle.attr_uses.specs.declared.entry.Entry.{Entry};
 
@@ -72,7 +72,7 @@ fn entry_under(nodes: &[Node], depth: u32, top: u32, name: u32) -> Option<Entry>
     while levels > 0 {
         levels -= 1;
         let half = half_of(levels);
-        let (left, right) = node_of(nodes, at).sides();
+        let (left, right) = sides_at(nodes, at);
         if rest < half {
             at = left;
         } else {
@@ -81,6 +81,17 @@ fn entry_under(nodes: &[Node], depth: u32, top: u32, name: u32) -> Option<Entry>
         }
     }
     node_of(nodes, at).entry()
+}
+
+// Both parts of a fork of a number; the part of nothing where there is none. The node is not copied.
+fn sides_at(nodes: &[Node], number: u32) -> (u32, u32)
+    requires { number < length nodes.now }
+    ensures { result ≡ (node_left (node_at nodes.now number), node_right (node_at nodes.now number)) }
+{
+    match &nodes[number as usize] {
+        Node::Empty | Node::Leaf(_) => (0, 0),
+        Node::Fork { left, right, .. } => (*left, *right),
+    }
 }
 
 // Puts the needed names below a node of so many levels at the end, the least first, with their first uses. The names below it

@@ -22,7 +22,6 @@ pub struct KeptTable {
 }
 
 // The maps and the wildcards of all tables.
-#[derive(Drop)]
 pub(crate) struct Store {
     pub maps: UseMaps,
     pub wildcards: Listed<Wildcard>,
@@ -87,5 +86,13 @@ impl Store {
             prohibited,
             wildcard,
         })
+    }
+}
+
+impl Drop for Store {
+    fn drop(self) {
+        let Store { maps, wildcards } = self;
+        drop(maps);
+        drop(wildcards);
     }
 }

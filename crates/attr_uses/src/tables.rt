@@ -21,7 +21,6 @@ use xs_names::NameId;
 
 /// The attribute uses and the attribute wildcards of all complex types and attribute groups of a schema set. A table shares
 /// with that of its base what is alike.
-#[derive(Drop)]
 pub struct AttrTables {
     pub(crate) store: Store,
     pub(crate) groups: Listed<Answer>,
@@ -203,4 +202,17 @@ pub fn use_at(parts: &Components, at: UseAt) -> Option<&AttrUse>
     ensures written { option_copied result ≡ written.use_at parts.now at }
 {
     uses_in(parts, at.holder).get(at.place)
+}
+
+impl Drop for AttrTables {
+    fn drop(self) {
+        let AttrTables {
+            store,
+            groups,
+            types,
+        } = self;
+        drop(store);
+        drop(groups);
+        drop(types);
+    }
 }

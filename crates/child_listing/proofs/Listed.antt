@@ -1,7 +1,7 @@
 -- The child elements of an element with their names, and what governs each.
 use Rattle.std.proofs.Common.{◌≡◌, ℕ, zero, suc, ◌+◌, ◌<◌, ◌≤◌, ◌^◌, List, [], ◌∷◌, ◌++◌, map, take, cond, length, min, append-nil, All, true, false, Option, None, Some, get_or, refl, sym, ap, ◌∙◌, subst, inl, inr, arith}
 use Rattle.std.specs.Prelude.{filter, slice_get, slice_index_or, unwrap_or}
-use Rattle.std.specs.Option.{option_and_then}
+use Rattle.std.specs.Option.{is_some, option_and_then}
 use Rattle.std.specs.List.{range_with_len}
 use Rattle.std.proofs.lemmas.List.{length-map, take_all, map-append, map_more, length-append}
 use Rattle.std.proofs.lemmas.List.Elements.{filter_more, All-nil, All-cons}
@@ -90,6 +90,11 @@ module _ (ns : Nodes) (children : List ℕ) where
 
   pub named-all : (i : ℕ) (found : List (ℕ × ℕ)) → found ≡ named-front i → length children ≤ i → found ≡ map (named ns) (filter (is_element_at ns) children)
   named-all i found so l = so ∙ ap (λ xs. map (named ns) (filter (is_element_at ns) xs)) (take_all i children l)
+
+-- where there is no first child element there is none
+pub none-named : (ns : Nodes) (xs : List ℕ) → is_some (slice_get xs 0) ≡ false → [] ≡ map (named ns) xs
+none-named ns [] e = refl
+none-named ns (x ∷ xs) e = absurd (let z : true ≡ false = e in cc)
 
 -- ---- of an element
 

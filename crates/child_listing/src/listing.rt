@@ -43,8 +43,11 @@ pub struct Listing {
 fn elements_below(alloc: Global, doc: &DocTree, node: u32) -> Result<Vec<(u32, NameId)>, AllocError>
     ensures { IfOk result (λ found. found.items ≡ map (λ child. (child, name_at doc.now child)) (element_children doc.now node)) }
 {
+    if doc.element_at(node, 0).is_none() {
+        return Ok(Vec::new(alloc));
+    }
     let children = doc.children(node)?;
-    let mut found = Vec::new(alloc);
+    let mut found = Vec::with_capacity(alloc, children.len())?;
     for child in &children {
         if let Some(name) = doc.name(*child) {
             found.push((*child, name))?;
@@ -64,7 +67,7 @@ fn symbols_below(
     requires within { AreNamesOf names.now (symbols_of automaton.now).names }
     ensures { IfOk result (λ symbols. symbols.items ≡ child_symbols names.now (Some automaton.now) (map (λ e. e.1) elements.now)) }
 {
-    let mut symbols = Vec::new(alloc);
+    let mut symbols = Vec::with_capacity(alloc, elements.len())?;
     for element in elements {
         symbols.push(automaton.symbol(names, element.1))?;
     }
@@ -156,7 +159,7 @@ fn pairs_below(
     let _declaration: &Option<ElementId> = &parent.declaration;
     let _of: &Option<TypeId> = &parent.of;
     let _mode: &Mode = &parent.mode;
-    let mut pairs = Vec::new(alloc);
+    let mut pairs = Vec::with_capacity(alloc, elements.len())?;
     for (element, term) in elements.iter().zip(terms) {
         let child = pair_of_child(alloc, doc, set, parent, (element.0, *term))?;
         pairs.push(child)?;

@@ -69,7 +69,7 @@ pub fn attribute<L: Ledger>(
     ensures least { steps.old ≤ steps.new }
     ensures steps { steps.new ≤ steps.old + length symbols.now }
 {
-    let mut terms = Vec::new(alloc);
+    let mut terms = Vec::with_capacity(alloc, symbols.len())?;
     let mut stuck = None;
     let mut state = ChildState::start(automaton);
     for (place, symbol) in symbols.iter().enumerate() {
@@ -97,7 +97,7 @@ pub fn attribute_none(alloc: Global, count: usize) -> Result<Attribution, AllocE
     ensures stuck { IfOk result (λ found. (symbols : List ℕ) → found.stuck ≡ stuck_in None symbols) }
     ensures terms { IfOk result (λ found. (symbols : List ℕ) → length symbols ≡ count → found.terms.items ≡ terms_in None symbols) }
 {
-    let mut terms = Vec::new(alloc);
+    let mut terms = Vec::with_capacity(alloc, count)?;
     for _ in 0..count {
         terms.push(None)?;
     }

@@ -274,10 +274,11 @@ impl<M: Summary> Seqs<M> {
         requires { IsLive self.now seq }
         ensures { (xs : List (Entry M.Map)) → get self.now seq ≡ Some xs → IfOk result (λ found. found.items ≡ items xs) }
     {
-        let mut found = Vec::new(self.alloc);
         match self.tops.top(seq.number) {
-            None => Ok(found),
+            None => Ok(Vec::new(self.alloc)),
             Some(top) => {
+                let count = self.trees.nodes()[top as usize].counts.leaves;
+                let mut found = Vec::with_capacity(self.alloc, count as usize)?;
                 push_items(self.trees.nodes(), top, &mut found)?;
                 Ok(found)
             }

@@ -8,7 +8,6 @@ use xs_components::{Components, Members};
 use xs_names::Names;
 
 /// A compiled schema set.
-#[derive(Drop)]
 pub struct Compiled {
     /// The names that stand in its documents, and those of documents that are assessed.
     pub names: Names,
@@ -34,4 +33,35 @@ pub struct Compiled {
     pub models: Models,
     /// The paths of its identity constraints, by their numbers (Structures 3.11.1).
     pub identities: Vec<IdentityPaths>,
+}
+
+impl Drop for Compiled {
+    fn drop(self) {
+        let Compiled {
+            names,
+            parts,
+            types,
+            members,
+            classes,
+            declarations,
+            named,
+            attr_uses,
+            known_uses,
+            contents,
+            models,
+            identities,
+        } = self;
+        drop(names);
+        drop(parts);
+        drop(types);
+        drop(members);
+        drop(classes);
+        drop(declarations);
+        drop(named);
+        drop(attr_uses);
+        drop(known_uses);
+        drop(contents);
+        drop(models);
+        drop(identities);
+    }
 }

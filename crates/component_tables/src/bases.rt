@@ -68,7 +68,6 @@ fn alone(of: TypeId) -> BaseLine
 }
 
 /// The lines of all simple types and all complex types.
-#[derive(Drop)]
 pub struct BaseLines {
     simples: Vec<BaseLine>,
     complexes: Vec<BaseLine>,
@@ -431,4 +430,12 @@ fn lines_of(alloc: Global, steps: &[BaseStep], ranks: &[u32]) -> Result<Vec<Base
     let nexts = nexts_of(alloc, steps, &order)?;
     let lines = lines_by(alloc, steps, nexts.as_slice(), ranks, order.as_slice())?;
     Ok(lines)
+}
+
+impl Drop for BaseLines {
+    fn drop(self) {
+        let BaseLines { simples, complexes } = self;
+        drop(simples);
+        drop(complexes);
+    }
 }

@@ -27,7 +27,6 @@ pub enum ContentType {
 }
 
 /// The content types of all complex types of a schema set.
-#[derive(Drop)]
 pub struct ContentTypes {
     complexes: Vec<ContentType>,
 }
@@ -147,5 +146,12 @@ fn taken(base: ContentType) -> ContentType
     match base {
         ContentType::SimpleType => ContentType::SimpleContent,
         _ => base,
+    }
+}
+
+impl Drop for ContentTypes {
+    fn drop(self) {
+        let ContentTypes { complexes } = self;
+        drop(complexes);
     }
 }

@@ -16,7 +16,6 @@ use xs_names::NameId;
 
 /// The types of all element declarations of a schema set, the declarations at the top of its documents by their names, and all types
 /// along their bases.
-#[derive(Drop)]
 pub struct Declarations {
     types: Vec<TypeId>,
     globals: Vec<Option<ElementId>>,
@@ -140,5 +139,18 @@ fn type_among(of: Option<TypeId>, head: Option<ElementId>, table: &[TypeId]) -> 
             Some(head) => table[head.number() as usize],
             None => TypeId::AnyType,
         },
+    }
+}
+
+impl Drop for Declarations {
+    fn drop(self) {
+        let Declarations {
+            types,
+            globals,
+            bases,
+        } = self;
+        drop(types);
+        drop(globals);
+        drop(bases);
     }
 }

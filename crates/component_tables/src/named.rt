@@ -16,7 +16,6 @@ use xs_names::{NameId, Names, NsId};
 
 /// The names of the types and of the attribute declarations at the top of the documents of a schema set (Structures 2.5).
 /// Contracts see the name in each place of both symbol spaces, if there is one.
-#[derive(Drop)]
 pub struct ComponentNames {
     types: Symbols,
     attributes: Symbols,
@@ -162,4 +161,12 @@ fn attribute_names(alloc: Global, parts: &Components) -> Result<Symbols, AllocEr
         names.push(top_name(part))?;
     }
     Ok(names)
+}
+
+impl Drop for ComponentNames {
+    fn drop(self) {
+        let ComponentNames { types, attributes } = self;
+        drop(types);
+        drop(attributes);
+    }
 }

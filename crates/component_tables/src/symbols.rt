@@ -7,7 +7,6 @@ use std::marker::Model;
 use xs_names::NameId;
 
 /// The names in one symbol space, by place: a place has a name there or none. Contracts see the list of these.
-#[derive(Drop)]
 pub struct Symbols {
     names: Vec<Option<NameId>>,
     firsts: Vec<Option<u32>>,
@@ -98,4 +97,12 @@ fn lengthen(firsts: &mut Vec<Option<u32>>, count: usize) -> Result<(), AllocErro
         firsts.push(None)?;
     }
     Ok(())
+}
+
+impl Drop for Symbols {
+    fn drop(self) {
+        let Symbols { names, firsts } = self;
+        drop(names);
+        drop(firsts);
+    }
 }

@@ -1,6 +1,8 @@
 -- Lists of numbers, each of them once, with more of them.
-use Rattle.std.proofs.Common.{◌≡◌, ℕ, ◌+◌, ◌<◌, ◌≤◌, ◌↔◌, ◌⊎◌, ◌==◌, Bool, List, [], ◌∷◌, ◌++◌, Option, Some, None, length, map, get_or, take, refl, sym, ap, subst, ◌∙◌, inl, inr, arith}
+use Rattle.std.proofs.Common.{◌≡◌, ℕ, ◌+◌, ◌<◌, ◌≤◌, ◌↔◌, ◌⊎◌, ◌==◌, Bool, true, List, [], ◌∷◌, ◌++◌, Option, Some, None, position, length, true≢false, map, get_or, take, refl, sym, ap, subst, ◌∙◌, inl, inr, arith}
 use Rattle.std.specs.Prelude.{Contains}
+use Rattle.std.specs.Option.{is_some}
+use Rattle.std.proofs.lemmas.Iterator.Adapters.{position_from-zero}
 use Rattle.std.proofs.lemmas.Bool.Decides.{Decides-eqb}
 use Rattle.std.proofs.lemmas.List.{take_more, map-append, length_push}
 use Rattle.std.proofs.lemmas.List.Elements.{Contains-append_left, Contains-push, Contains-push_cases}
@@ -12,6 +14,11 @@ use Rattle.content_automaton.proofs.Items.{contains_head, contains_tail, contain
 
 abbrev same : ℕ → ℕ → Bool
 same a b = a == b
+
+-- a number that is found is in the list
+pub item_there : (xs : List ℕ) (x : ℕ) (found : Option ℕ) → found ≡ position (same x) xs → true ≡ is_some found → xs ≡ with_item same xs x
+item_there xs x None at is = absurd (true≢false is)
+item_there xs x (Some n) at is = sym (with_item-old same Decides-eqb xs x n (sym (position_from-zero (same x) xs) ∙ sym at))
 
 pub item_contains : (xs : List ℕ) (y n : ℕ) → Contains (with_item same xs y) n ↔ (Contains xs n ⊎ (n ≡ y))
 item_contains xs y n = by (number_of same xs y) refl

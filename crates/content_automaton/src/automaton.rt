@@ -24,7 +24,6 @@ use xs_names::{NameId, Names};
 use xsv_steps::{Ledger, Steps};
 
 /// The automaton of a content model without an `all`, over the names of child elements.
-#[derive(Drop)]
 pub struct Automaton {
     machine: Machine,
     symbols: Symbols,
@@ -251,4 +250,19 @@ fn is_too_large(states: u16, symbols: u32, cells: u32) -> bool
     ensures { IsTrue result ↔ (cells < states * symbols) }
 {
     u64::from(states) * u64::from(symbols) > u64::from(cells)
+}
+
+impl Drop for Automaton {
+    fn drop(self) {
+        let Automaton {
+            machine,
+            symbols,
+            terms,
+            attributions,
+        } = self;
+        drop(machine);
+        drop(symbols);
+        drop(terms);
+        drop(attributions);
+    }
 }

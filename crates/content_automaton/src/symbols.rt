@@ -10,7 +10,7 @@ ghost use Rattle.content_automaton.specs.Rows.{with_all, admits_symbol, is_open,
 
 use crate::spaces::admits;
 use crate::symbol_terms::{Accepts, Given};
-use indexmap::IndexSet;
+use key_sets::KeySet;
 use std::alloc::{AllocError, Global};
 use std::collections::HashSet;
 use std::marker::Model;
@@ -24,8 +24,8 @@ const MOST: usize = 1 << 30;
 /// one more. They are numbered in this order.
 #[derive(Drop)]
 pub struct Symbols {
-    pub(crate) names: IndexSet<NameId>,
-    pub(crate) spaces: IndexSet<NsId>,
+    pub(crate) names: KeySet<NameId>,
+    pub(crate) spaces: KeySet<NsId>,
 }
 
 impl Model for Symbols {
@@ -35,9 +35,9 @@ impl Model for Symbols {
 
     ghost Value = { SymbolTable };
 
-    ghost view = { λ s. record { names = s.names.keys; spaces = s.spaces.keys } };
+    ghost view = { λ s. record { names = s.names; spaces = s.spaces } };
 
-    ghost invariant = { λ s. (length s.names.keys ≤ 2 ^ 30) × (length s.spaces.keys ≤ 2 ^ 30) × HasNoRepeats s.names.keys × HasNoRepeats s.spaces.keys };
+    ghost invariant = { λ s. (length s.names ≤ 2 ^ 30) × (length s.spaces ≤ 2 ^ 30) × HasNoRepeats s.names × HasNoRepeats s.spaces };
 }
 
 impl Symbols {
@@ -46,8 +46,8 @@ impl Symbols {
         ensures { IfOk result (AreSymbolsOf terms.now) }
     {
         let mut symbols = Symbols {
-            names: IndexSet::new(alloc),
-            spaces: IndexSet::new(alloc),
+            names: KeySet::new(alloc),
+            spaces: KeySet::new(alloc),
         };
         for term in terms {
             symbols.add_term(term)?;

@@ -26,7 +26,6 @@ use xs_components::{ParticleId, TermId};
 use xs_names::{NameId, Names};
 
 /// The automaton of a content model, over the names of child elements.
-#[derive(Drop)]
 pub enum ContentAutomaton {
     /// Of a model without an `all`.
     States(Automaton),
@@ -200,4 +199,13 @@ fn build_all(
         return Ok(Err(ModelError::TableTooLarge));
     }
     Ok(Ok(ContentAutomaton::All(automaton)))
+}
+
+impl Drop for ContentAutomaton {
+    fn drop(self) {
+        match self {
+            ContentAutomaton::States(states) => drop(states),
+            ContentAutomaton::All(all) => drop(all),
+        }
+    }
 }

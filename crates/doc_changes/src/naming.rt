@@ -78,7 +78,7 @@ fn name_attributes(
     ensures known { found.HasAttributes names.old attributes.now → names.new ≡ names.old }
     ensures sound { IsSound names.new }
 {
-    let mut made = Listed::new(alloc);
+    let mut made = Listed::from_vec(Vec::with_capacity(alloc, attributes.len())?);
     for attribute in attributes {
         let named = name_attribute(names, attribute)?;
         made.push(named)?;
@@ -98,7 +98,7 @@ fn name_bindings(
     ensures known { found.HasBindings names.old bindings.now → names.new ≡ names.old }
     ensures sound { IsSound names.new }
 {
-    let mut made = Listed::new(alloc);
+    let mut made = Listed::from_vec(Vec::with_capacity(alloc, bindings.len())?);
     for binding in bindings {
         let named = name_binding(names, binding)?;
         made.push(named)?;

@@ -1,10 +1,11 @@
 -- Slots by number, before and after a write.
-use Rattle.std.proofs.Common.{◌≡◌, ◌≢◌, ℕ, zero, suc, ◌<◌, List, [], ◌∷◌, ◌++◌, length, map, set, take, get_or, sym, ap, ◌∙◌, subst, Option, Some, None, refl, inl, inr, get_or-set_same, get_or-set_other, length-set}
+use Rattle.std.proofs.Common.{◌≡◌, ◌≢◌, ℕ, zero, suc, ◌<◌, List, [], ◌∷◌, ◌++◌, length, map, set, take, get_or, sym, ap, ◌∙◌, subst, Option, Some, None, IsSome, refl, inl, inr, get_or-set_same, get_or-set_other, length-set}
 use Rattle.std.proofs.Math.ListN.{get_or-map, get_or-eq_default}
 use Rattle.std.proofs.lemmas.Bool.{cases_lt}
 use Rattle.std.proofs.lemmas.List.{length-map, get_or_default}
 use Rattle.std.proofs.lemmas.Option.{same_Some, none-some}
-use Rattle.slab.specs.Slab.{Slab, get, Updates}
+use Rattle.slab.specs.Slab.{Slab, get, with_value, Updates}
+use Rattle.slab.proofs.SlabLemmas.{Updates-with_value}
 use Rattle.doc_nodes.specs.declared.slots.Slot.{Slot}
 use Rattle.doc_nodes.specs.Slots.{slot, Writes, key_at, slot_by, IsKeyOf, AreKept}
 use Rattle.doc_nodes.proofs.Among.{same_or_other}
@@ -94,6 +95,15 @@ module _ (keys : List (Option ℕ)) (slab sl : Slab Slot) (n key : ℕ) (kept : 
       kept_on keys (set keys n None) slab sl n key kept (length-set keys n None) (set_others None) (away_take None at u)
       (λ k e. absurd (none-some k (sym (at_set None lt) ∙ e)))
 
+  -- what is written in the place of what was there
+  pub writes_at : (s : Slot) → key_at keys n ≡ Some key → Updates slab sl key (Some s) → Writes (map (slot_by slab) keys) (map (slot_by sl) keys) n (Some s)
+  writes_at s at u = writes keys keys slab sl n key kept refl (λ m d. refl) (away_take (Some s) at u) (Some s) (ap (slot_by sl) at ∙ u.changed)
+
+  pub kept_at : (s : Slot) → key_at keys n ≡ Some key → s.number ≡ n → Updates slab sl key (Some s) → AreKept keys sl
+  kept_at s at num u =
+      kept_on keys keys slab sl n key kept refl (λ m d. refl) (away_take (Some s) at u)
+      (λ k e. let q : key ≡ k = same_Some key k (sym at ∙ e) in (s, ap (get sl) (sym q) ∙ u.changed, num))
+
 -- a number whose slot is there has a key
 pub within_of : (keys : List (Option ℕ)) (slab : Slab Slot) (n : ℕ) (s : Slot) → slot (map (slot_by slab) keys) n ≡ Some s → n < length keys
 within_of keys slab n s e =
@@ -107,3 +117,21 @@ pub taken_key : (keys : List (Option ℕ)) (slab : Slab Slot) (n : ℕ) (r : Opt
 taken_key keys slab n r s k there read is =
     let lt = within_of keys slab n s there in
     (lt, sym (read ∙ get_or_default keys n r None lt) ∙ is)
+
+-- what is written through the reference to the node of a number, which keeps its number
+module _ (keys : List (Option ℕ)) (slab : Slab Slot) (n : ℕ) (r : Option ℕ) (x w : Slot) (key : ℕ) (kept : AreKept keys slab)
+    (there : slot (map (slot_by slab) keys) n ≡ Some x) (read : r ≡ get_or keys n r) (is : r ≡ Some key) (lent : Some w ≡ get slab key) where
+  lent_key : key_at keys n ≡ Some key
+  lent_key = (taken_key keys slab n r x key there read is).1
+
+  pub lent_is : w ≡ x
+  lent_is = same_Some w x (lent ∙ sym (ap (slot_by slab) lent_key) ∙ sym (slot_is keys slab n) ∙ there)
+
+  lent_updates : (s : Slot) → Updates slab (with_value slab key s) key (Some s)
+  lent_updates s = Updates-with_value slab key s (subst (λ (o : Option Slot). IsSome o) lent refl)
+
+  pub lent_writes : (s : Slot) → Writes (map (slot_by slab) keys) (map (slot_by (with_value slab key s)) keys) n (Some s)
+  lent_writes s = writes_at keys slab (with_value slab key s) n key kept s lent_key (lent_updates s)
+
+  pub lent_kept : (s : Slot) → s.number ≡ w.number → x.number ≡ n → AreKept keys (with_value slab key s)
+  lent_kept s same num = kept_at keys slab (with_value slab key s) n key kept s lent_key (same ∙ ap (λ (y : Slot). y.number) lent_is ∙ num) (lent_updates s)

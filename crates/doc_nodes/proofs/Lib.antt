@@ -16,3 +16,4 @@ pub mod Hanging
 pub mod Unrolling
 pub mod Settling
 pub mod Elements
+pub mod Single

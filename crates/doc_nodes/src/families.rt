@@ -42,7 +42,7 @@ fn leaf(child: &NewNode) -> Leaf<Child>
 fn leaves(alloc: Global, children: &[NewNode]) -> Result<Vec<Leaf<Child>>, AllocError>
     ensures { IfOk result (λ made. made.items ≡ map leaf_of children.now) }
 {
-    let mut made = Vec::new(alloc);
+    let mut made = Vec::with_capacity(alloc, children.len())?;
     for child in children {
         made.push(leaf(child))?;
     }
@@ -100,7 +100,7 @@ fn own_lists(alloc: Global, lists: &mut Seqs<Firsts>, list: SeqId) -> Result<Vec
     ensures keeps { KeepsLists lists.old lists.new }
 {
     let items = lists.items(list)?;
-    let mut hung = Vec::new(alloc);
+    let mut hung = Vec::with_capacity(alloc, items.len())?;
     match push_lists(lists, items.as_slice(), &mut hung) {
         Ok(()) => Ok(hung),
         Err(error) => {

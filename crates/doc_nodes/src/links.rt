@@ -111,7 +111,7 @@ fn children_in(alloc: Global, lists: &Seqs<Firsts>, list: SeqId) -> Result<Vec<u
     ensures { IfOk result (λ children. children.items ≡ numbers (entries lists.now list)) }
 {
     let items = lists.items(list)?;
-    let mut children = Vec::new(alloc);
+    let mut children = Vec::with_capacity(alloc, items.len())?;
     for item in &items {
         children.push(child_of(lists, *item))?;
     }
@@ -397,7 +397,26 @@ impl NodeLinks {
         ensures err { OnErr result (self.new ≡ self.old) }
         ensures sound { IsSound self.new }
     {
+        if children.len() == 1 {
+            return self.put_only(parent, children);
+        }
         put_family(alloc, &mut self.slots, &mut self.lists, parent, children)
+    }
+
+    /// The same for a single node.
+    fn put_only(&mut self, parent: u32, children: Vec<NewNode>) -> Result<(), AllocError>
+        requires parent { (it : Node) × IsNode self.old parent it × (it.children ≡ []) × (it.depth + 1 < 2 ^ 32) }
+        requires free { AreFree self.old children.items }
+        requires one { length children.items ≡ 1 }
+        ensures ok { OnOk result (InsertsAll self.old self.new parent children.items) }
+        ensures err { OnErr result (self.new ≡ self.old) }
+        ensures sound { IsSound self.new }
+    {
+        let mut only = children;
+        match only.pop() {
+            Some(NewNode { number, content }) => self.put(number, parent, 0, content),
+            None => unreachable!(),
+        }
     }
 
     /// Takes a node away that is no root and has no children, and answers what it held. It takes no memory.

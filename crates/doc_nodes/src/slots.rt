@@ -166,9 +166,8 @@ impl Slots {
         requires { (s : Slot) × (slot_of self.old.slots number ≡ Some s) × (s.number ≡ number) }
         ensures { (s : Slot) → slot_of self.old.slots number ≡ Some s → Writes self.old.slots self.new.slots number (Some (record s { count = count })) }
     {
-        let mut slot = self.take(number);
-        slot.count = count;
-        self.put(slot);
+        let list = self.owner(number).list;
+        self.set_list(number, list, count);
     }
 
     /// Writes the list of a node's children, and how many it has.
@@ -176,10 +175,15 @@ impl Slots {
         requires { (s : Slot) × (slot_of self.old.slots number ≡ Some s) × (s.number ≡ number) }
         ensures { (s : Slot) → slot_of self.old.slots number ≡ Some s → Writes self.old.slots self.new.slots number (Some (record s { list = list; count = count })) }
     {
-        let mut slot = self.take(number);
-        slot.list = list;
-        slot.count = count;
-        self.put(slot);
+        match self.keys[number as usize] {
+            Some(key) => {
+                if let Some(slot) = self.slab.get_mut(key) {
+                    slot.list = list;
+                    slot.count = count;
+                }
+            }
+            None => unreachable!(),
+        }
     }
 
     /// Writes that a node has a child less.
@@ -187,9 +191,8 @@ impl Slots {
         requires { (s : Slot) × (slot_of self.old.slots number ≡ Some s) × (s.number ≡ number) × (1 ≤ s.count) }
         ensures { (s : Slot) → slot_of self.old.slots number ≡ Some s → Writes self.old.slots self.new.slots number (Some (record s { count = s.count - 1 })) }
     {
-        let mut slot = self.take(number);
-        slot.count -= 1;
-        self.put(slot);
+        let own = self.owner(number);
+        self.set_list(number, own.list, own.count - 1);
     }
 
     /// Gives out one number more, which no node has.

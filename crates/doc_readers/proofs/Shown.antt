@@ -1,19 +1,16 @@
 -- What nodes hold is what their heads and names show.
-use Rattle.std.proofs.Common.{◌≡◌, ℕ, ◌+◌, ◌<◌, List, [], ◌∷◌, ◌++◌, length, map, take, get_or, Bool, true, false, Option, Some, None, Result, Ok, Err, IfOk, refl, sym, ap, ◌∙◌}
-use Rattle.std.specs.Prelude.{filter, reverse, unwrap_or}
+use Rattle.std.proofs.Common.{◌≡◌, ℕ, ◌+◌, ◌<◌, List, [], ◌∷◌, ◌++◌, length, map, take, get_or, Bool, true, false, Option, Some, None, refl, sym, ap, ◌∙◌}
+use Rattle.std.specs.Prelude.{filter, unwrap_or}
 use Rattle.std.specs.Option.{option_map, option_and_then}
 use Rattle.std.proofs.lemmas.List.Elements.{filter-append}
 use Rattle.std.proofs.lemmas.List.{append-nil, map-append, take_more}
 use Rattle.std.proofs.lemmas.Option.{same_Some, none-some}
-use Rattle.assess_records.specs.Numbered.{Scope}
-use Rattle.elem_governing.specs.declared.head.ElementHead.{ElementHead}
 use Rattle.doc_nodes.specs.Nodes.{Node, Nodes, node, is_element, is_element_by, is_element_at}
 use Rattle.doc_nodes.specs.declared.content.Content.{Content}
 use Rattle.doc_nodes.specs.declared.content.Content.TheVariants as contents
 use Rattle.doc_nodes.specs.declared.content.Element.{Element}
 use Rattle.doc_changes.specs.Held.{name_in, attributes_in, attributes_by, bindings_in, bindings_by}
 use Rattle.doc_changes.specs.Readers.{name_by, name_at}
-use Rattle.doc_readers.specs.Heads.{text_named, pair_of, IsHeadAt}
 
 -- the node holds this of an element
 pub record IsHeld (o : Option Node) (e : Element) : Type 0 where
@@ -30,14 +27,6 @@ held (Some it) e is =
       attributes = ap attributes_in (sym q);
       bindings = ap bindings_in (sym q);
     }
-
-pub head_held : (ns : Nodes) (n : ℕ) (outer : Scope) (e : Element) (h : ElementHead) → IsHeld (node ns n) e → h.name ≡ e.name → h.attrs ≡ map text_named e.attributes
-    → h.scope ≡ reverse (map pair_of e.bindings) ++ outer → IsHeadAt ns n outer h
-head_held ns n outer e h k name attrs scope = record {
-  name = name ∙ sym k.name;
-  attributes = attrs ∙ ap (map text_named) (sym k.attributes);
-  scope = scope ∙ ap (λ l. reverse (map pair_of l) ++ outer) (sym k.bindings);
-}
 
 -- a node that has a name is an element, and one that has none is not
 record IsNamed (o : Option Node) (name : ℕ) : Type 0 where
@@ -87,8 +76,3 @@ some_more f p old new n name one is = is ∙ ap (λ l. old ++ l) (sym one)
 
 pub none_more : (f : ℕ → ℕ) (p : ℕ → Bool) (old : List ℕ) (n : ℕ) → map f (filter p (n ∷ [])) ≡ [] → old ≡ old ++ map f (filter p (n ∷ []))
 none_more f p old n none = sym (ap (λ l. old ++ l) none ∙ append-nil old)
-
--- what three clauses say together
-pub ok_all : {T E : Type 0} (r : Result T E) (P Q R S : T → Type 0) → IfOk r P → IfOk r Q → IfOk r R → ((x : T) → P x → Q x → R x → S x) → IfOk r S
-ok_all (Ok x) P Q R S p q o f = f x p q o
-ok_all (Err e) P Q R S p q o f = tt

@@ -1,35 +1,27 @@
 //! Heads of elements, and the names of child elements.
 
-ghost use Rattle.std.specs.Prelude.{◌≡◌, ◌∷◌, [], ◌++◌, filter, map, reverse, Some, IfOk, OnOk};
+ghost use Rattle.std.specs.Prelude.{◌≡◌, ◌<◌, ◌∷◌, [], ◌++◌, All, length, filter, map, Some, None, false, IfOk, IfSome, OnOk};
 ghost use Rattle.tree_rows.specs.declared.row.NodeKind.TheVariants as kinds;
 ghost use Rattle.doc_nodes.specs.Nodes.{element_children, is_element_at};
 ghost use Rattle.doc_changes.specs.Held.{kind_at};
-ghost use Rattle.doc_changes.specs.Readers.{name_at};
-ghost use Rattle.doc_readers.specs.Heads.{IsHeadAt, text_named, pair_of};
+ghost use Rattle.doc_changes.specs.Readers.{name_at, scope_at};
+ghost use Rattle.assess_records.specs.Instance.{instance_text};
+ghost use Rattle.assess_records.specs.declared.instance_names.InstanceAttribute.TheVariants.{TypeName};
+ghost use Rattle.doc_readers.specs.Heads.{text_named, texts_named};
 
-use assess_records::{NamedText, NamedTextList};
-use doc_nodes::{Content, Element, NameAttribute, NameBinding};
+use assess_records::{InstanceAttribute, NamedText, NamedTextList, is_named};
+use doc_nodes::{Content, NameAttribute};
 use doc_tree::DocTree;
 use elem_governing::ElementHead;
 use std::alloc::{AllocError, Global};
 use xs_lists::Listed;
-use xs_names::{NameId, Scope};
-
-/// Binds what an element binds, one prefix after the other.
-fn bind_own(scope: &mut Scope, bindings: &[NameBinding]) -> Result<(), AllocError>
-    ensures { OnOk result (scope.new ≡ reverse (map pair_of bindings.now) ++ scope.old) }
-{
-    for binding in bindings {
-        scope.bind(binding.prefix.as_str(), binding.namespace)?;
-    }
-    Ok(())
-}
+use xs_names::{NameId, Names};
 
 /// The attributes of an element, by the numbers of their names. Their texts are shared.
 fn texts_of(alloc: Global, attributes: &[NameAttribute]) -> Result<NamedTextList, AllocError>
     ensures { IfOk result (λ texts. texts ≡ map text_named attributes.now) }
 {
-    let mut texts = Listed::new(alloc);
+    let mut texts = Listed::from_vec(Vec::with_capacity(alloc, attributes.len())?);
     for attribute in attributes {
         texts.push(NamedText {
             name: attribute.name,
@@ -39,40 +31,60 @@ fn texts_of(alloc: Global, attributes: &[NameAttribute]) -> Result<NamedTextList
     Ok(texts)
 }
 
-/// The head of an element that holds this, below one with the outer scope.
-fn head_of(alloc: Global, element: &Element, outer: &Scope) -> Result<ElementHead, AllocError>
-    ensures name { IfOk result (λ head. head.name ≡ element.now.name) }
-    ensures attributes { IfOk result (λ head. head.attrs ≡ map text_named element.now.attributes) }
-    ensures scope { IfOk result (λ head. head.scope ≡ reverse (map pair_of element.now.bindings) ++ outer.now) }
-{
-    let mut scope = outer.try_clone()?;
-    bind_own(&mut scope, element.bindings.as_slice())?;
-    let attrs = texts_of(alloc, element.attributes.as_slice())?;
-    Ok(ElementHead {
-        name: element.name,
-        attrs,
-        scope,
-    })
-}
-
-/// The head of an element of a document, below one with the outer scope: the number of its name, its attributes and the prefixes in
-/// scope (Namespaces in XML 1.0, 6.1).
+/// The head of an element of a document: the number of its name, its attributes and the prefixes in scope (Namespaces in XML 1.0, 6.1).
 ///
 /// # Errors
 ///
 /// `AllocError` is want of memory.
-pub fn head_at(
-    alloc: Global,
-    doc: &DocTree,
-    node: u32,
-    outer: &Scope,
-) -> Result<ElementHead, AllocError>
+pub fn head_at(alloc: Global, doc: &DocTree, node: u32) -> Result<ElementHead, AllocError>
     requires { kind_at doc.now node ≡ Some kinds.Element }
-    ensures { IfOk result (IsHeadAt doc.now node outer.now) }
+    ensures name { IfOk result (λ head. head.name ≡ name_at doc.now node) }
+    ensures attributes { IfOk result (λ head. head.attrs ≡ texts_named doc.now node) }
+    ensures scope { IfOk result (λ head. head.scope ≡ scope_at doc.now node) }
 {
     match doc.content(node) {
-        Some(Content::Element(element)) => head_of(alloc, element, outer),
+        Some(Content::Element(element)) => {
+            let scope = doc.scope_at(node)?;
+            let attrs = texts_of(alloc, element.attributes.as_slice())?;
+            Ok(ElementHead {
+                name: element.name,
+                attrs,
+                scope,
+            })
+        }
         _ => unreachable!(),
+    }
+}
+
+/// Whether one of these attributes is xsi:type (Structures 2.6.1).
+fn say_type(names: &Names, attributes: &[NameAttribute]) -> bool
+    requires { All (λ a. a.name < length names.now.names) (map text_named attributes.now) }
+    ensures { result ≡ false → instance_text names.now (map text_named attributes.now) TypeName ≡ None }
+{
+    for attribute in attributes {
+        if is_named(names, InstanceAttribute::TypeName, attribute.name) {
+            return true;
+        }
+    }
+    false
+}
+
+/// The number of the name of an element that has no attribute xsi:type (Structures 2.6.1); `None` where it has one, or the number is
+/// of no element. It takes no memory.
+pub fn untyped_name(names: &Names, doc: &DocTree, node: u32) -> Option<NameId>
+    requires { All (λ a. a.name < length names.now.names) (texts_named doc.now node) }
+    ensures name { IfSome result (λ name. name ≡ name_at doc.now node) }
+    ensures untyped { IfSome result (λ _. instance_text names.now (texts_named doc.now node) TypeName ≡ None) }
+{
+    match doc.content(node) {
+        Some(Content::Element(element)) => {
+            if say_type(names, element.attributes.as_slice()) {
+                None
+            } else {
+                Some(element.name)
+            }
+        }
+        _ => None,
     }
 }
 

@@ -5,6 +5,6 @@ mod heads;
 mod laws;
 mod texts;
 
-pub use heads::{head_at, names_below};
+pub use heads::{head_at, names_below, untyped_name};
 pub use laws::{nodes_are_readers, nodes_show_elements};
 pub use texts::chars_of;

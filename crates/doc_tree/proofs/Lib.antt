@@ -1,3 +1,4 @@
+pub mod Alone
 pub mod InverseRows
 pub mod RowsPut
 pub mod RowsRead

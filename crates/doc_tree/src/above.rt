@@ -75,7 +75,7 @@ fn bind_all(scope: &mut Scope, bindings: &[NameBinding]) -> Result<(), AllocErro
     let mut left = bindings.len();
     while 0 < left {
         left -= 1;
-        scope.bind(bindings[left].prefix.as_str(), bindings[left].namespace)?;
+        scope.bind(&bindings[left].prefix, bindings[left].namespace)?;
     }
     Ok(())
 }
@@ -99,7 +99,7 @@ fn bind_own(scope: &mut Scope, bindings: &[NameBinding]) -> Result<(), AllocErro
     ensures { OnOk result (scope.new ≡ reverse (map (λ b. (b.prefix, b.namespace)) bindings.now) ++ scope.old) }
 {
     for binding in bindings {
-        scope.bind(binding.prefix.as_str(), binding.namespace)?;
+        scope.bind(&binding.prefix, binding.namespace)?;
     }
     Ok(())
 }

@@ -1,7 +1,9 @@
 //! The characters of texts, one after another.
 
-ghost use Rattle.std.specs.Prelude.{◌≡◌, [], flat_map, unwrap_or, IfOk};
+ghost use Rattle.std.specs.Prelude.{◌≡◌, ◌∷◌, [], flat_map, unwrap_or, IfOk, IfSome};
 ghost use Rattle.std.specs.Option.{option_copied};
+ghost use Rattle.doc_nodes.specs.Nodes as nodes;
+ghost use Rattle.doc_nodes.specs.Nodes.{children_by};
 ghost use Rattle.doc_changes.specs.Readers.{chars_at};
 
 use crate::contents::text_in;
@@ -30,6 +32,17 @@ fn joined(alloc: Global, links: &NodeLinks, nodes: &[u32]) -> Result<Text, Alloc
         }
     }
     Text::from_string(chars)
+}
+
+/// The child of a node that has no other.
+pub(crate) fn only_child(links: &NodeLinks, node: u32) -> Option<u32>
+    ensures { IfSome result (λ child. children_by (nodes.node links.now node) ≡ child ∷ []) }
+{
+    if links.child_count(node) == 1 {
+        links.child_at(node, 0)
+    } else {
+        None
+    }
 }
 
 /// The characters of the texts among some nodes, one after another. Those of a text alone are shared.

@@ -6,7 +6,7 @@ ghost use Rattle.doc_tree.specs.Changes.{put_count};
 
 use crate::above::{bind_above, element_past, elements_before, scope_upwards};
 use crate::contents::{attribute_in, count_bindings, kind_in, name_in, text_in};
-use crate::joining::texts_of;
+use crate::joining::{only_child, texts_of};
 use crate::{Change, make_change, put_back_of, read_tree};
 use doc_changes::{
     add_text, insert_part, nodes_of, remove_node, rename_node, set_attribute, set_text,
@@ -21,7 +21,6 @@ use xs_names::{NameId, Names, Scope, Text};
 
 /// A document that is edited in place. Contracts see the node of each number that was given out; these stand for one
 /// tree under a table of names.
-#[derive(Drop)]
 pub struct DocTree {
     links: NodeLinks,
     /// How many nodes there are.
@@ -313,6 +312,9 @@ impl DocTree {
     pub fn text_of(&self, node: u32) -> Result<Text, AllocError>
         ensures chars { IfOk result (λ text. text ≡ own_chars self.now node) }
     {
+        if let Some(child) = only_child(&self.links, node) {
+            return texts_of(self.alloc, &self.links, &[child]);
+        }
         let children = self.links.children(self.alloc, node)?;
         texts_of(self.alloc, &self.links, children.as_slice())
     }
@@ -479,5 +481,16 @@ impl DocTree {
         let taken = count_put_back(&back);
         self.count = (self.count as usize + put - taken) as u32;
         Ok(back)
+    }
+}
+
+impl Drop for DocTree {
+    fn drop(self) {
+        let DocTree {
+            links,
+            count: _,
+            alloc: _,
+        } = self;
+        drop(links);
     }
 }

@@ -16,7 +16,7 @@ use Rattle.doc_tree.specs.declared.change.Change.{Change}
 use Rattle.kept_inverses.specs.from_kept_state.KeptState.{KeptState}
 use Rattle.kept_inverses.specs.from_kept_children.Edited.{IsRightFor}
 use Rattle.kept_inverses.specs.Steps.{TakesInverse}
-use Rattle.inverse_budgets.proofs.Budget.{inverse-budgeted}
+use Rattle.kept_inverses.proofs.InverseBudget.{inverse-budgeted}
 use Rattle.edit_session.specs.Changed.{IsChanged, IsReached, TakesWithin, after_change}
 use Rattle.edit_session.specs.Costs.{change_cost}
 use Rattle.edit_session.specs.Held.{document_in, Stands, found_by, IsPresent, state_by}

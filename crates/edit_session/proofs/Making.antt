@@ -27,7 +27,7 @@ use Rattle.kept_inverses.specs.from_kept_state.KeptState.{KeptState}
 use Rattle.kept_inverses.specs.from_kept_children.Edited.{IsRightFor}
 use Rattle.kept_inverses.specs.from_kept_changes.Steps.{Takes}
 use Rattle.kept_keys.specs.Keys.{IsWhole}
-use Rattle.inverse_budgets.proofs.from_change_budgets.Budget.{change-budgeted}
+use Rattle.kept_inverses.proofs.Budget.{change-budgeted}
 use Rattle.edit_session.specs.Costs.{edit_cost}
 use Rattle.edit_session.specs.Edited.{IsReady, IsDone, IsRefused}
 use Rattle.edit_session.specs.Held.{document_in, Stands, found_by, IsPresent, state_by}

@@ -29,19 +29,19 @@ pub(crate) struct Opened {
     pub keys: TargetKeys,
 }
 
-// The nodes of a tree, whose names are put into the table of the set.
-fn nodes_of(alloc: Global, set: &mut Compiled, tree: &Tree) -> Result<DocTree, AllocError>
+// The nodes of a tree, whose names are put into the table of the set. The tree is let go of before more is kept beside the nodes.
+fn nodes_of(alloc: Global, set: &mut Compiled, tree: Tree) -> Result<DocTree, AllocError>
     requires usable { IsUsable set.old }
-    ensures stands { IfOk result (λ doc. StandsFor set.new.names doc tree.now) }
+    ensures stands { IfOk result (λ doc. StandsFor set.new.names doc tree) }
     ensures usable { OnOk result (IsUsable set.new) }
-    ensures named { OnOk result (set_of set.new ≡ with_names (set_of set.old) tree.now.forest) }
+    ensures named { OnOk result (set_of set.new ≡ with_names (set_of set.old) tree.forest) }
 {
     // Who reads a table of names is told that it is sound.
     let _sound = set.names.lookup(NsId::ABSENT, "");
     document_names_are_found();
     usable_with_more_names();
-    add_names(&mut set.names, tree)?;
-    DocTree::from_plain(alloc, &mut set.names, tree)
+    add_names(&mut set.names, &tree)?;
+    DocTree::from_plain(alloc, &mut set.names, &tree)
 }
 
 // Keeps all elements of a document of which nothing is kept yet, with their codes.
@@ -95,16 +95,16 @@ fn keep_all<L: Ledger>(
 pub(crate) fn open_document<L: Ledger>(
     alloc: Global,
     set: &mut Compiled,
-    tree: &Tree,
+    tree: Tree,
     steps: &mut Steps<L>,
 ) -> Result<Opened, AllocError>
     requires usable { IsUsable set.old }
-    ensures stands { IfOk result (λ opened. StandsFor set.new.names opened.doc tree.now) }
+    ensures stands { IfOk result (λ opened. StandsFor set.new.names opened.doc tree) }
     ensures present { IfOk result (λ opened. IsPresent set.new opened.doc opened.kept) }
     ensures targets { IfOk result (λ opened. AreTargetsBy set.new opened.doc opened.kept.records.slots opened.keys) }
-    ensures named { OnOk result (set_of set.new ≡ with_names (set_of set.old) tree.now.forest) }
+    ensures named { OnOk result (set_of set.new ≡ with_names (set_of set.old) tree.forest) }
     ensures least { steps.old ≤ steps.new }
-    ensures few { steps.new ≤ steps.old + 8 * count tree.now.forest }
+    ensures few { steps.new ≤ steps.old + 8 * count tree.forest }
 {
     let doc = nodes_of(alloc, set, tree)?;
     let mut keys = TargetKeys::new(alloc, set)?;

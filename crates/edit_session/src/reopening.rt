@@ -39,5 +39,5 @@ pub(crate) fn reopen_document<L: Ledger>(
     ensures few { (d : Document) → StandsFor names.now doc.now d → steps.new ≤ steps.old + 8 * count d.forest }
 {
     let tree = doc.to_plain(names)?;
-    open_document(alloc, set, &tree, steps)
+    open_document(alloc, set, tree, steps)
 }

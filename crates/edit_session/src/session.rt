@@ -243,7 +243,7 @@ impl Session for EditSession {
         steps: &mut Steps<L>,
     ) -> Result<Self, AllocError> {
         let mut set = set;
-        match open_document(alloc, &mut set, &tree, steps) {
+        match open_document(alloc, &mut set, tree, steps) {
             Ok(opened) => Ok(EditSession {
                 set,
                 doc: opened.doc,

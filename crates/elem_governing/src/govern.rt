@@ -1,6 +1,6 @@
 //! What governs the root of a document, and a child of an element.
 
-ghost use Rattle.std.specs.Prelude.{◌≡◌, IfOk, slice_get};
+ghost use Rattle.std.specs.Prelude.{◌≡◌, ℕ, List, None, IfOk, slice_get};
 ghost use Rattle.std.specs.Option.{option_map};
 ghost use Rattle.elem_governing.specs.Governing as spec;
 ghost use Rattle.elem_governing.specs.View.{IsView, AreKnown};
@@ -62,6 +62,28 @@ pub fn govern_child(
     let mode = child_mode(parent.mode, part);
     let declaration = particle_declaration(view, part, name);
     governed(alloc, view, mode, declaration, xsi, scope)
+}
+
+/// What governs a child that has this name and no attribute xsi:type: what `govern_child` answers, which reads no scope then.
+pub fn govern_untyped_child(
+    view: &SchemaView<'_>,
+    parent: Governing,
+    term: Option<TermId>,
+    name: NameId,
+) -> Governing
+    requires view { IsView view.now.parts.now view.now.declarations.now view.now.named.now }
+    ensures pair { (scope : List (List ℕ × ℕ)) → result ≡ spec.govern_child view.now.names.now view.now.parts.now parent.mode term name None scope }
+{
+    let part = accepting_particle(view, term);
+    let declaration = particle_declaration(view, part, name);
+    match child_mode(parent.mode, part) {
+        Mode::Skip => skipped(),
+        mode => Governing {
+            declaration,
+            of: Some(type_declared(view, &declaration)),
+            mode,
+        },
+    }
 }
 
 // What governs an element with this declaration, if any, that is assessed in this mode.

@@ -31,7 +31,7 @@ fn scope_in(names: &mut Names, outer: &Scope, bindings: &[Binding]) -> Result<Sc
     let mut scope = outer.try_clone()?;
     for binding in bindings {
         let space = known_space(names, binding.namespace.as_str())?;
-        scope.bind(binding.prefix.as_str(), space)?;
+        scope.bind(&binding.prefix, space)?;
     }
     Ok(scope)
 }
@@ -57,7 +57,7 @@ fn named_texts(
     ensures named { IfOk result (λ attrs. attrs ≡ numbered.named_texts names.old attributes.now) }
     ensures same { names.new ≡ names.old }
 {
-    let mut attrs = Listed::new(alloc);
+    let mut attrs = Listed::from_vec(Vec::with_capacity(alloc, attributes.len())?);
     for attribute in attributes {
         let named = named_text(names, attribute)?;
         attrs.push(named)?;

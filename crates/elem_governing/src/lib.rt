@@ -15,7 +15,7 @@ mod view;
 
 pub use again::{pairs_are_governed_again, regovern};
 pub use children::{child_names, text_of};
-pub use govern::{govern_child, govern_root};
+pub use govern::{govern_child, govern_root, govern_untyped_child};
 pub use governed_laws::governed_types_are_there;
 pub use head::{ElementHead, read_head};
 pub use laws::derivation_is_tested;

@@ -25,7 +25,6 @@ pub struct Handling {
 }
 
 /// The value of a bound, and whether the types derived from this one have to keep it (Datatypes 4.3.7 to 4.3.10).
-#[derive(Drop)]
 pub struct Bound {
     pub value: Value,
     pub fixed: bool,
@@ -166,4 +165,11 @@ fn same_steps(
         copies.push(patterns.try_clone()?)?;
     }
     Ok(Listed::from_vec(copies))
+}
+
+impl Drop for Bound {
+    fn drop(self) {
+        let Bound { value, fixed: _ } = self;
+        drop(value);
+    }
 }

@@ -1,6 +1,7 @@
 pub mod Atomic
 pub mod BuiltIn
 pub mod Facets
+pub mod Literal
 pub mod Making
 pub mod Members
 pub mod Reading

@@ -42,8 +42,8 @@ pub(crate) fn read_atomic(
 /// The most items that a list may have.
 pub(crate) const MOST_ITEMS: usize = 65_536;
 
-// Whether the text has more items than a list may have, where the type is a list.
-fn has_too_many(kind: Builtin, text: &str) -> bool
+/// Whether the text has more items than a list may have, where the type is a list.
+pub(crate) fn has_too_many(kind: Builtin, text: &str) -> bool
     ensures { result ≡ spec.has_too_many kind text.now }
 {
     match item_type(kind) {
@@ -77,7 +77,8 @@ pub(crate) fn judged_value(
     }
 }
 
-fn code_of(fault: ValueFault) -> Code
+/// The code of why a text has no value.
+pub(crate) fn code_of(fault: ValueFault) -> Code
     ensures { result ≡ spec.fault_code fault }
 {
     match fault {

@@ -24,8 +24,8 @@ pub(crate) fn facets_of(alloc: Global, kind: Builtin) -> FacetList
     }
 }
 
-// The bound at a number.
-fn bound_at(kind: Builtin, number: Option<Dec>) -> Option<Bound>
+/// The bound at a number.
+pub(crate) fn bound_at(kind: Builtin, number: Option<Dec>) -> Option<Bound>
     ensures { result ≡ spec.bound_at kind number }
 {
     match number {

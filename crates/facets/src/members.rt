@@ -34,7 +34,6 @@ pub struct Choices {
 }
 
 /// What the literals of a type are that is no union.
-#[derive(Drop)]
 pub enum Literals {
     /// Those of a built-in type.
     OfBuiltin(Builtin),
@@ -43,7 +42,6 @@ pub enum Literals {
 }
 
 /// A member of a union, which is no union itself.
-#[derive(Drop)]
 pub struct Member {
     pub(crate) literals: Literals,
     pub(crate) list: Shared<FacetList>,
@@ -96,7 +94,6 @@ impl Union {
 }
 
 /// What the literals of a type are.
-#[derive(Drop)]
 pub enum Source {
     Literals(Literals),
     Union(Union),
@@ -159,4 +156,30 @@ pub(crate) fn gates_of(alloc: Global, union_of: &Union) -> Result<Listed<Gate>, 
         })?;
     }
     Ok(gates)
+}
+
+impl Drop for Source {
+    fn drop(self) {
+        match self {
+            Source::Literals(literals) => drop(literals),
+            Source::Union(union) => drop(union),
+        }
+    }
+}
+
+impl Drop for Member {
+    fn drop(self) {
+        let Member { literals, list } = self;
+        drop(literals);
+        drop(list);
+    }
+}
+
+impl Drop for Literals {
+    fn drop(self) {
+        match self {
+            Literals::OfBuiltin(_) => {}
+            Literals::OfList(of_list) => drop(of_list),
+        }
+    }
 }

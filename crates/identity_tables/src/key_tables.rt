@@ -21,7 +21,6 @@ struct TableId {
 ///
 /// For the identity constraint k, table 2k holds the element's own tuples. For a key or unique, table 2k + 1 holds one entry
 /// for each child element whose table holds the tuple; for a keyref it holds its tuples that are not visible.
-#[derive(Drop)]
 pub struct KeyTables {
     alloc: Global,
     tables: HashMap<TableId, Counts<Tuple>>,
@@ -138,5 +137,12 @@ impl KeyTables {
         if counts.is_empty() {
             self.tables.remove(&id);
         }
+    }
+}
+
+impl Drop for KeyTables {
+    fn drop(self) {
+        let KeyTables { alloc: _, tables } = self;
+        drop(tables);
     }
 }

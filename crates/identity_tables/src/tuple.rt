@@ -74,7 +74,6 @@ impl Hash for Field {
 /// The keys of a target's fields, in the order of the fields (Structures 3.11.4). Contracts see the list of them.
 ///
 /// Tuples of one and two keys take no memory of their own.
-#[derive(Drop)]
 pub struct Tuple {
     fields: SmallVec<Field, 2>,
 }
@@ -173,5 +172,12 @@ impl Hash for Tuple {
 
     fn hash<H: Hasher>(&self, state: &mut H) {
         self.fields.hash(state);
+    }
+}
+
+impl Drop for Tuple {
+    fn drop(self) {
+        let Tuple { fields } = self;
+        drop(fields);
     }
 }

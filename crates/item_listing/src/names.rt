@@ -1,18 +1,27 @@
-ghost use Rattle.std.specs.Prelude.{◌≡◌, IfOk};
+ghost use Rattle.std.specs.Prelude.{◌≡◌, ◌<◌, ◌≤◌, IfOk, IfSome, OnOk, vec_len};
 
 use std::alloc::{AllocError, Global};
-use xs_names::{Text, TextPool};
+use xs_names::Text;
 
-/// After so many names those that came are let go of, so that few are kept where each is another.
-const MOST: u32 = 65_536;
+/// So many names are kept at most, each in a place that its characters give it.
+const PLACES: usize = 256;
 
-/// The names that came of late. One that comes again shares the characters of the one before.
+/// The names that came of late. One that comes again shares the characters of the one before, where none came since that has its place.
 #[derive(Drop)]
 pub struct RecentNames {
     alloc: Global,
-    pool: TextPool,
-    /// How many came since the pool is there.
-    count: u32,
+    places: Vec<Option<Text>>,
+}
+
+/// The place of a name.
+fn place_of(name: &str) -> usize
+    ensures { result < 256 }
+{
+    let mut mixed = 0u8;
+    for byte in name.as_bytes() {
+        mixed = mixed.wrapping_mul(31).wrapping_add(*byte);
+    }
+    mixed as usize
 }
 
 impl RecentNames {
@@ -20,8 +29,7 @@ impl RecentNames {
     pub fn new(alloc: Global) -> Self {
         RecentNames {
             alloc,
-            pool: TextPool::new(alloc),
-            count: 0,
+            places: Vec::new(alloc),
         }
     }
 
@@ -30,16 +38,38 @@ impl RecentNames {
         self.alloc
     }
 
+    /// Makes all places, where they are not there.
+    fn make_places(&mut self) -> Result<(), AllocError>
+        ensures { OnOk result (256 ≤ vec_len self.new.places) }
+    {
+        while self.places.len() < PLACES {
+            self.places.push(None)?;
+        }
+        Ok(())
+    }
+
+    /// The name in a place, if it has these characters.
+    fn known(&self, place: usize, name: &str) -> Option<&Text>
+        requires { place < vec_len self.now.places }
+        ensures { IfSome result (λ known. known.now ≡ name.now) }
+    {
+        match &self.places[place] {
+            Some(known) if known.as_str() == name => Some(known),
+            _ => None,
+        }
+    }
+
     /// A text of these characters.
     pub fn text(&mut self, name: &str) -> Result<Text, AllocError>
         ensures { IfOk result (λ t. t ≡ name.now) }
     {
-        if self.count < MOST {
-            self.count += 1;
-            return self.pool.text(name);
+        self.make_places()?;
+        let place = place_of(name);
+        if let Some(known) = self.known(place, name) {
+            return known.try_clone();
         }
-        self.pool = TextPool::new(self.alloc);
-        self.count = 1;
-        self.pool.text(name)
+        let text = Text::new(self.alloc, name)?;
+        self.places[place] = Some(text.try_clone()?);
+        Ok(text)
     }
 }

@@ -58,16 +58,6 @@ by-kind (Some it) is = by-kind-in it.content is
 pub root-element : (t : NameTable) (ns : Nodes) (d : Document) → StandsFor t ns d → is_element_at ns 1 ≡ true
 root-element t ns d z = by-kind (node ns 1) (shown t ns d.forest z.nodes 1 (root-there d.forest z.tree.root))
 
--- ---- the scope
-
--- an element binds its prefixes in the scope outside of it
-pub scope-outer : (ns : Nodes) → AreSound ns → (n : ℕ) → own_scope ns n ++ outer_scope (scope_at ns) (parent_at ns n) ≡ scope_at ns n
-scope-outer ns sound n = by (parent_at ns n) refl
-  where
-    by : (o : Option ℕ) → parent_at ns n ≡ o → own_scope ns n ++ outer_scope (scope_at ns) o ≡ scope_at ns n
-    by None e = sym (scope_root ns n e)
-    by (Some p) e = sym (scope_below ns p n e (depth_below ns p n sound e))
-
 -- ---- what is in the table
 
 all-reverse : {X : Type 0} (P : X → Type 0) (xs : List X) → All P xs → All P (reverse xs)

@@ -38,6 +38,13 @@ module _ (c : Compiled) (names : NameTable) (parts : Tables) (names_is : names �
   pub known-read : (scope read : List (List ℕ × ℕ)) → read ≡ scope → AreKnown c.names scope → AreKnown names read
   known-read scope read e known = subst (λ (t : NameTable). AreKnown t read) (sym names_is) (subst (AreKnown c.names) (sym e) known)
 
+  -- a child that has no attribute xsi:type
+  pub untyped-read : (ns : Nodes) (n name : ℕ) → name ≡ name_at ns n → instance_text c.names (texts_named ns n) TypeName ≡ None → (parent : Governing) (term : Option ℕ)
+      → govern_child names parts parent.mode term name None (scope_at ns n) ≡ given_pair (set_of c) parent term (head_at (set_of c) ns n)
+  untyped-read ns n name name-is untyped parent term =
+      let none : None ≡ (head_at (set_of c) ns n).xsi = sym untyped in
+      λ i. govern_child (names_is i) (parts_is i) parent.mode term (name-is i) (none i) (scope_at ns n)
+
   module _ (ns : Nodes) (n : ℕ) (h : ElementHead) (name : h.name ≡ name_at ns n) (attrs : h.attrs ≡ texts_named ns n) (scope : h.scope ≡ scope_at ns n) (xsi : Option (List ℕ))
       (said : xsi ≡ (head_by c.names h).xsi) where
     xsi-is : xsi ≡ (head_at (set_of c) ns n).xsi

@@ -11,8 +11,9 @@ ghost use Rattle.kept_judging.specs.Judged.{root_pair, given_pair, again_pair};
 
 use crate::view::{head_of, local_type, view_of};
 use compiled_schema::Compiled;
+use doc_readers::untyped_name;
 use doc_tree::DocTree;
-use elem_governing::{Governing, govern_child, govern_root, regovern};
+use elem_governing::{Governing, govern_child, govern_root, govern_untyped_child, regovern};
 use kept_state::Governed;
 use std::alloc::{AllocError, Global};
 use xs_components::TermId;
@@ -42,6 +43,33 @@ pub fn pair_of_root(alloc: Global, doc: &DocTree, set: &Compiled) -> Result<Gove
 ///
 /// `AllocError` is want of memory.
 pub fn pair_below(
+    alloc: Global,
+    doc: &DocTree,
+    set: &Compiled,
+    parent: Governing,
+    child: (u32, Option<TermId>),
+) -> Result<Governed, AllocError>
+    requires usable { IsUsable set.now }
+    requires stands { (d : Document) × StandsFor set.now.names doc.now d }
+    requires element { is_element_at doc.now child.0 ≡ true }
+    ensures node { IfOk result (λ it. it.node ≡ child.0) }
+    ensures pair { IfOk result (λ it. it.pair ≡ given_pair (set_of set.now) parent child.1 (head_at (set_of set.now) doc.now child.0)) }
+    ensures governed { IfOk result (λ it. CanGovern set.now.parts it.pair) }
+{
+    match untyped_name(&set.names, doc, child.0) {
+        Some(name) => {
+            let pair = govern_untyped_child(&view_of(set), parent, child.1, name);
+            Ok(Governed {
+                node: child.0,
+                pair,
+            })
+        }
+        None => pair_by_head(alloc, doc, set, parent, child),
+    }
+}
+
+// The same by the child's head.
+fn pair_by_head(
     alloc: Global,
     doc: &DocTree,
     set: &Compiled,

@@ -3,8 +3,7 @@
 ghost use Rattle.std.specs.Prelude.{◌≡◌, ◌<◌, All, length, true, IfOk};
 ghost use Rattle.std.specs.Option.{option_map};
 ghost use Rattle.elem_governing.specs.Heads.{head_by};
-ghost use Rattle.doc_nodes.specs.Nodes.{IsSound, is_element_at};
-ghost use Rattle.doc_changes.specs.Held.{parent_at};
+ghost use Rattle.doc_nodes.specs.Nodes.{is_element_at};
 ghost use Rattle.doc_changes.specs.Readers as readers;
 ghost use Rattle.doc_changes.specs.Readers.{name_at};
 ghost use Rattle.doc_readers.specs.Heads.{texts_named};
@@ -15,7 +14,7 @@ use doc_readers::head_at;
 use doc_tree::DocTree;
 use elem_governing::{ElementHead, SchemaView};
 use std::alloc::{AllocError, Global};
-use xs_names::{Scope, Text};
+use xs_names::Text;
 
 /// What governing is read off.
 pub(crate) fn view_of(set: &Compiled) -> SchemaView<'_>
@@ -32,17 +31,6 @@ pub(crate) fn view_of(set: &Compiled) -> SchemaView<'_>
     }
 }
 
-// The scope outside of an element.
-fn outer_scope(alloc: Global, doc: &DocTree, node: u32) -> Result<Scope, AllocError>
-    ensures scope { IfOk result (λ scope. scope ≡ readers.outer_scope (readers.scope_at doc.now) (parent_at doc.now node)) }
-    ensures sound { IsSound doc.now }
-{
-    match doc.parent(node) {
-        None => Scope::new(alloc),
-        Some(parent) => doc.scope_at(parent),
-    }
-}
-
 /// The head of an element.
 ///
 /// # Errors
@@ -54,8 +42,7 @@ pub(crate) fn head_of(alloc: Global, doc: &DocTree, node: u32) -> Result<Element
     ensures attributes { IfOk result (λ head. head.attrs ≡ texts_named doc.now node) }
     ensures scope { IfOk result (λ head. head.scope ≡ readers.scope_at doc.now node) }
 {
-    let outer = outer_scope(alloc, doc, node)?;
-    head_at(alloc, doc, node, &outer)
+    head_at(alloc, doc, node)
 }
 
 /// The text of the attribute xsi:type (Structures 2.6.1).

@@ -6,6 +6,6 @@ mod element;
 mod state;
 
 pub use children::KeptChildren;
-pub use kept_records;
 pub use element::{Governed, Outcome};
+pub use kept_records;
 pub use state::KeptState;

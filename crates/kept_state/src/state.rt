@@ -19,7 +19,6 @@ use xs_lists::Listed;
 
 /// What is kept beside a document that is edited: the records of its elements, the lists of their child elements, and the codes of IDs
 /// at the root.
-#[derive(Drop)]
 pub struct KeptState {
     pub alloc: Global,
     pub records: KeptRecords,
@@ -185,4 +184,18 @@ fn is_same_type(one: &Governing, other: &Governing) -> bool
     ensures { IsTrue result ↔ (one.now.of ≡ other.now.of) }
 {
     one.of == other.of
+}
+
+impl Drop for KeptState {
+    fn drop(self) {
+        let KeptState {
+            alloc: _,
+            records,
+            lists,
+            root_ids,
+        } = self;
+        drop(records);
+        drop(lists);
+        drop(root_ids);
+    }
 }

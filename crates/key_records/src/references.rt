@@ -10,7 +10,6 @@ use std::collections::HashMap;
 pub(crate) const MOST: usize = 1 << 31;
 
 /// The keys and uniques to which the keyrefs of a schema set refer (Structures 3.11.1), by the numbers of constraints.
-#[derive(Drop)]
 pub struct References {
     alloc: Global,
     // Of each constraint the key or unique that it refers to, if it is a keyref.
@@ -106,5 +105,17 @@ impl References {
         ensures { result ≡ is_referred self.now key }
     {
         !self.keyrefs_of(key).is_empty()
+    }
+}
+
+impl Drop for References {
+    fn drop(self) {
+        let References {
+            alloc: _,
+            keys,
+            keyrefs,
+        } = self;
+        drop(keys);
+        drop(keyrefs);
     }
 }

@@ -31,7 +31,6 @@ use xsv_steps::{Ledger, Steps};
 /// symbols of its child elements.
 ///
 /// A call changes one list at most; where memory runs out, none. Steps are bounded by `bits`, the number of binary digits.
-#[derive(Drop)]
 pub struct ModelLists {
     alloc: Global,
     /// Those of automata over states, by the number of the dead state.
@@ -325,5 +324,17 @@ fn goes_by_place(automaton: &ContentAutomaton, child: ListedChild, stuck: Option
     match stuck {
         Some(stuck) => child.place < stuck,
         None => true,
+    }
+}
+
+impl Drop for ModelLists {
+    fn drop(self) {
+        let ModelLists {
+            alloc: _,
+            rows,
+            alls,
+        } = self;
+        drop(rows);
+        drop(alls);
     }
 }

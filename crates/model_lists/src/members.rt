@@ -53,7 +53,7 @@ fn member_leaves(
     requires { AreSymbolsBy automaton.now symbols.now }
     ensures { IfOk result (λ leaves. leaves.items ≡ map (leaf_for (letter_of members.now) (is_ambivalent_symbol automaton.now)) symbols.now) }
 {
-    let mut leaves = Vec::new(alloc);
+    let mut leaves = Vec::with_capacity(alloc, symbols.len())?;
     for symbol in symbols {
         let marked = is_ambivalent_symbol(automaton, *symbol);
         leaves.push(leaf_with(members.letter(*symbol), marked))?;

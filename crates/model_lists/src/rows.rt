@@ -74,7 +74,7 @@ fn row_leaves(
     requires { AreSymbolsBy automaton.now symbols.now }
     ensures { IfOk result (λ leaves. leaves.items ≡ map (leaf_for (λ n. n) (is_ambivalent_symbol automaton.now)) symbols.now) }
 {
-    let mut leaves = Vec::new(alloc);
+    let mut leaves = Vec::with_capacity(alloc, symbols.len())?;
     for symbol in symbols {
         leaves.push(leaf_with(*symbol, is_ambivalent_symbol(automaton, *symbol)))?;
     }

@@ -95,7 +95,7 @@ pub fn boxed<T: Drop>(alloc: Global, value: T) -> Result<Box<T>, AllocError>
 }
 
 /// Lets go of what is kept.
-pub(crate) fn close(held: Held) {
+fn close(held: Held) {
     match held {
         Held::Empty => {}
         Held::Ready(basis) => basis.close(),

@@ -8,7 +8,7 @@ ghost use Rattle.open_document.specs.Answers as answers;
 ghost use Rattle.open_document.specs.State.{Basis, OpenState, WorkState, empty, ready, working, IsReady, IsOpen};
 
 use crate::compiling::compile_into;
-use crate::held::{Held, close, open};
+use crate::held::{Held, open};
 use crate::working::{answer, tell_first, tell_report, verdict};
 use crate::{SetVerdict, Verdict};
 use item_listing::Items;
@@ -158,11 +158,5 @@ impl Workspace {
             Held::Working(document) => verdict(document),
             Held::Empty | Held::Ready(_) => unreachable!(),
         }
-    }
-
-    /// Lets go of it.
-    pub fn close(self) {
-        let Workspace { held } = self;
-        close(held);
     }
 }

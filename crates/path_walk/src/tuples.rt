@@ -19,7 +19,6 @@ use std::alloc::AllocError;
 use xpath_subset::Paths;
 
 /// What a target comes to for an identity constraint (Structures 3.11.4).
-#[derive(Drop)]
 pub struct TargetOutcome {
     /// Its key-sequence, where each field has a key.
     pub tuple: Option<Tuple>,
@@ -89,4 +88,15 @@ pub fn outcome_at<T: KeySiblings>(
         left = more;
     }
     Ok(outcome)
+}
+
+impl Drop for TargetOutcome {
+    fn drop(self) {
+        let TargetOutcome {
+            tuple,
+            misused: _,
+            nillable: _,
+        } = self;
+        drop(tuple);
+    }
 }

@@ -11,7 +11,6 @@ use xs_names::Text;
 
 /// A tree of elements and texts. Contracts see a document whose forest is one root, within the limits, with the next
 /// free number.
-#[derive(Drop)]
 pub struct Tree {
     rows: Vec<Row>,
     next_free: u32,
@@ -274,5 +273,12 @@ impl Tree {
             None => None,
             Some((row, behind)) => number_in(behind, u64::from(row.depth) + 1, place),
         }
+    }
+}
+
+impl Drop for Tree {
+    fn drop(self) {
+        let Tree { rows, next_free: _ } = self;
+        drop(rows);
     }
 }

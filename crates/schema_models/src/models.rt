@@ -10,7 +10,6 @@ use xs_components::{ComplexId, Components};
 
 /// The automata of the content models of a schema set, by the numbers of complex types. A type whose content has no particle
 /// has none.
-#[derive(Drop)]
 pub struct Models {
     automata: Vec<Option<ContentAutomaton>>,
 }
@@ -55,5 +54,12 @@ impl Models {
             Some(model) => model.as_ref(),
             None => None,
         }
+    }
+}
+
+impl Drop for Models {
+    fn drop(self) {
+        let Models { automata } = self;
+        drop(automata);
     }
 }

@@ -1,7 +1,7 @@
 -- What is known of the documents that there are before a set is closed.
 use Rattle.std.specs.Prelude.{◌≡◌, ℕ, ◌<◌, ◌^◌, List, length, map}
 use Rattle.xs_names.specs.WhiteSpace.{collapsed}
-use Rattle.indexmap.specs.IndexMap.{get_by_text}
+use Rattle.std.specs.HashMap.{get_by_text}
 use Rattle.schema_set.specs.EffectiveSet.{own_target, document_at}
 use Rattle.schema_set.specs.declared.documents.Available.{Available}
 use Rattle.schema_set.specs.Order.{target_place}

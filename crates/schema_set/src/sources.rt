@@ -3,7 +3,7 @@ ghost use Rattle.std.specs.List.{list_any};
 ghost use Rattle.std.specs.Map.{update};
 ghost use Rattle.std.specs.Option.{option_or};
 ghost use Rattle.std.specs.Str.{bytes_eq};
-ghost use Rattle.indexmap.specs.IndexMap.{get_by_text};
+ghost use Rattle.std.specs.HashMap.{get_by_text};
 ghost use Rattle.xs_names.specs.WhiteSpace.{collapsed};
 ghost use Rattle.schema_set.specs.EffectiveSet.{document_at};
 ghost use Rattle.schema_set.specs.Order.{IsNumber};
@@ -11,8 +11,8 @@ ghost use Rattle.schema_set.specs.Sourced as spec;
 
 use crate::Available;
 use crate::targets::{own_target, target_place};
-use indexmap::IndexMap;
 use std::alloc::{AllocError, Global};
+use std::collections::HashMap;
 use xs_names::{Text, WhiteSpace, normalized};
 
 /// The documents that there are, and where a location and a target namespace lead.
@@ -23,7 +23,7 @@ pub struct Sources<'a> {
     // Of each document how many stand before the first with its target namespace.
     pub(crate) places: Vec<u32>,
     // By location, with its white space collapsed, the number of the first document that has it.
-    pub(crate) numbers: IndexMap<String, u32>,
+    pub(crate) numbers: HashMap<String, u32>,
 }
 
 // The places of the target namespaces of all documents.
@@ -40,7 +40,7 @@ fn own_places(alloc: Global, available: &[Available]) -> Result<Vec<u32>, AllocE
 }
 
 // The number that a text has.
-fn number_of(numbers: &IndexMap<String, u32>, key: &str) -> Option<u32>
+fn number_of(numbers: &HashMap<String, u32>, key: &str) -> Option<u32>
     ensures { result ≡ get_by_text numbers.now key.now }
 {
     numbers.get(key).copied()
@@ -49,7 +49,7 @@ fn number_of(numbers: &IndexMap<String, u32>, key: &str) -> Option<u32>
 // Gives a text a number.
 fn put(
     alloc: Global,
-    numbers: &mut IndexMap<String, u32>,
+    numbers: &mut HashMap<String, u32>,
     key: &str,
     number: u32,
 ) -> Result<(), AllocError>
@@ -63,7 +63,7 @@ fn put(
 // Gives a text a number, unless it has one.
 fn note(
     alloc: Global,
-    numbers: &mut IndexMap<String, u32>,
+    numbers: &mut HashMap<String, u32>,
     key: &str,
     number: u32,
 ) -> Result<(), AllocError>
@@ -82,7 +82,7 @@ fn note(
 // Notes that the document of this number has a location, unless an earlier one has it.
 fn note_location(
     alloc: Global,
-    numbers: &mut IndexMap<String, u32>,
+    numbers: &mut HashMap<String, u32>,
     location: &Text,
     number: u32,
 ) -> Result<(), AllocError>
@@ -97,7 +97,7 @@ fn note_location(
 // Notes the locations of the document of this number.
 fn note_locations(
     alloc: Global,
-    numbers: &mut IndexMap<String, u32>,
+    numbers: &mut HashMap<String, u32>,
     locations: &[Text],
     number: u32,
 ) -> Result<(), AllocError>
@@ -114,11 +114,11 @@ fn note_locations(
 fn location_numbers(
     alloc: Global,
     available: &[Available],
-) -> Result<IndexMap<String, u32>, AllocError>
+) -> Result<HashMap<String, u32>, AllocError>
     requires few { length available.now < 2 ^ 16 }
     ensures { IfOk result (λ numbers. (location : List ℕ) → get_by_text numbers (collapsed location) ≡ document_at available.now location) }
 {
-    let mut numbers = IndexMap::new(alloc);
+    let mut numbers = HashMap::new(alloc);
     let mut number = 1;
     for document in available {
         note_locations(alloc, &mut numbers, document.locations.as_slice(), number)?;

@@ -17,7 +17,6 @@ pub enum SpaceToken {
 }
 
 /// The namespaces that a wildcard admits, as they are written (Structures 3.10.2).
-#[derive(Drop)]
 pub enum Spaces {
     /// `##any`
     Any,
@@ -67,4 +66,14 @@ pub fn spaces_of(alloc: Global, text: &str) -> Result<Spaces, AllocError>
     }
     let words = items(alloc, text)?;
     Ok(Spaces::These(tokens_of(alloc, words.as_slice())?))
+}
+
+impl Drop for Spaces {
+    fn drop(self) {
+        match self {
+            Spaces::Any => {}
+            Spaces::Other => {}
+            Spaces::These(these) => drop(these),
+        }
+    }
 }

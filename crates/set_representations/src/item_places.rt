@@ -1,13 +1,13 @@
 ghost use Rattle.std.specs.Prelude.{◌≡◌, ℕ, ◌==◌, Some, None, if◌then◌else◌, OnOk, IfOk};
 ghost use Rattle.set_representations.specs.inside.Building.{found};
 
-use indexmap::IndexMap;
 use std::alloc::{AllocError, Global};
+use std::collections::HashMap;
 
 /// Places by the numbers of elements. Of several for one number the last that was put counts.
 #[derive(Drop)]
 pub(crate) struct ItemPlaces {
-    inner: IndexMap<u32, u32>,
+    inner: HashMap<u32, u32>,
 }
 
 impl ItemPlaces {
@@ -16,7 +16,7 @@ impl ItemPlaces {
         ensures { (item : ℕ) → found result item ≡ None }
     {
         ItemPlaces {
-            inner: IndexMap::new(alloc),
+            inner: HashMap::new(alloc),
         }
     }
 

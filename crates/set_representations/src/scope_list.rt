@@ -39,7 +39,7 @@ fn bind_all(names: &mut Names, bindings: &[Binding], scope: &mut Scope) -> Resul
 {
     for binding in bindings {
         let ns = names.namespace_id(binding.namespace.as_str())?;
-        scope.bind(binding.prefix.as_str(), ns)?;
+        scope.bind(&binding.prefix, ns)?;
     }
     Ok(())
 }

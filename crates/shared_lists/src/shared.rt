@@ -6,7 +6,6 @@ use std::marker::Model;
 use std::rc::Rc;
 
 /// A value that stands in memory once, however many hold it. Contracts see the value.
-#[derive(Drop)]
 pub struct Shared<T> {
     inner: Rc<T>,
 }
@@ -43,5 +42,12 @@ impl<T: Drop> Shared<T> {
         Ok(Shared {
             inner: self.inner.clone()?,
         })
+    }
+}
+
+impl<T: Drop> Drop for Shared<T> {
+    fn drop(self) {
+        let Shared { inner } = self;
+        drop(inner);
     }
 }

@@ -4,6 +4,7 @@ pub mod Framing
 pub mod TreeLaws
 pub mod ReadLaws
 pub mod Built
+pub mod BuiltIns
 pub mod Defined
 pub mod FilledLaws
 pub mod InForce

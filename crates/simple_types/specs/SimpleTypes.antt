@@ -8,6 +8,7 @@ use Rattle.simple_values.specs.declared.value.Value.{Value}
 use Rattle.facet_rules.specs.First.{sooner}
 use Rattle.facets.specs.declared.atomic.Accepted.{Accepted}
 use Rattle.facets.specs.declared.known.Known.TheVariants.{Whole}
+pub use Rattle.facets.specs.Literal.{value_of}
 use Rattle.facets.specs.Trying.{Scope}
 use Rattle.simple_types.specs.TypeTree.{TypeTree, not_simple, built_in, restriction, list_type, union_type, MemberTrees, no_member, member}
 use Rattle.simple_types.specs.Trees.{type_tree}
@@ -59,10 +60,6 @@ AreWhole t types = (of : TypeId) → IsSimpleTree (type_tree t of) → IsWhole t
 abbrev pub IsBuilt : Tables → Result SimpleTypes Fault → Type 0
 IsBuilt t (Ok types) = AreTypesOf t types × (first_fault_of types ≡ None) × AreWhole t types
 IsBuilt t (Err fault) = (types : SimpleTypes) × AreTypesOf t types × (first_fault_of types ≡ Some fault)
-
-abbrev pub value_of : Result Accepted Code → Result Value Code
-value_of (Ok accepted) = Ok accepted.value
-value_of (Err code) = Err code
 
 -- 3.14.4: the value of a text, or the first code
 abbrev pub IsValueOf : TypeTree → Scope → List ℕ → Result Value Code → Type 0

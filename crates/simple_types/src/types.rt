@@ -12,7 +12,7 @@ use crate::building::first_of;
 use crate::content::judged_contents;
 use crate::filling::judged_simples;
 use crate::{JudgedType, validated};
-use facets::{Accepted, Facets};
+use facets::{Accepted, Facets, read_builtin};
 use simple_values::Value;
 use std::alloc::{AllocError, Global};
 use xs_codes::{Code, Fault};
@@ -21,7 +21,6 @@ use xs_lists::Listed;
 use xs_names::Scope;
 
 /// The simple types of a set and the simple contents of its complex types, ready to judge texts.
-#[derive(Drop)]
 pub struct SimpleTypes {
     simples: Listed<JudgedType>,
     complexes: Listed<JudgedType>,
@@ -66,10 +65,7 @@ impl SimpleTypes {
     {
         match of {
             TypeId::AnyType => Ok(Err(Code::CvcDatatypeValid1)),
-            TypeId::Builtin(kind) => {
-                let facets = Facets::of_builtin(alloc, kind);
-                value_by(alloc, &facets, text, scope)
-            }
+            TypeId::Builtin(kind) => read_builtin(alloc, kind, text, scope),
             TypeId::Simple(id) => value_in(
                 alloc,
                 self.simples.as_slice(),
@@ -135,5 +131,13 @@ fn value_of(outcome: Result<Accepted, Code>) -> Result<Value, Code>
     match outcome {
         Ok(accepted) => Ok(accepted.value),
         Err(code) => Err(code),
+    }
+}
+
+impl Drop for SimpleTypes {
+    fn drop(self) {
+        let SimpleTypes { simples, complexes } = self;
+        drop(simples);
+        drop(complexes);
     }
 }

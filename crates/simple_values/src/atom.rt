@@ -9,7 +9,7 @@ use xs_names::NsId;
 
 /// A value of an atomic type. Each primitive type has its own variant, or its own kind of moment, so that values of
 /// different primitive types differ (Datatypes 2.2 and 3.2).
-#[derive(Drop, PartialEq, Eq, Hash)]
+#[derive(PartialEq, Eq, Hash)]
 pub enum Atom {
     /// `anySimpleType`: a text whose meaning is open, unlike any `string`.
     Untyped(Characters),
@@ -73,5 +73,22 @@ impl Clone for ExpandedName {
             namespace: self.namespace,
             local: self.local.clone()?,
         })
+    }
+}
+
+impl Drop for Atom {
+    fn drop(self) {
+        match self {
+            Atom::Untyped(untyped) => drop(untyped),
+            Atom::Text(text) => drop(text),
+            Atom::Uri(uri) => drop(uri),
+            Atom::Name(name) => drop(name),
+            Atom::Boolean(_) => {}
+            Atom::Number(_) => {}
+            Atom::Hex(hex) => drop(hex),
+            Atom::Base64(base64) => drop(base64),
+            Atom::Instant { kind: _, moment: _ } => {}
+            Atom::Duration(_) => {}
+        }
     }
 }

@@ -8,7 +8,6 @@ use xs_codes::Builtin;
 use xs_lists::Listed;
 
 /// An atom, and the built-in type that accepted it, or the nearest one that the accepting type is derived from.
-#[derive(Drop)]
 pub struct TypedAtom {
     pub builtin: Builtin,
     pub atom: Atom,
@@ -27,7 +26,6 @@ impl Clone for TypedAtom {
 }
 
 /// The items of a list value, at most 4,294,967,295. Contracts see the list of them.
-#[derive(Drop)]
 pub struct Atoms {
     inner: Listed<TypedAtom>,
 }
@@ -95,5 +93,19 @@ impl Clone for Atoms {
         Ok(Atoms {
             inner: self.inner.clone()?,
         })
+    }
+}
+
+impl Drop for Atoms {
+    fn drop(self) {
+        let Atoms { inner } = self;
+        drop(inner);
+    }
+}
+
+impl Drop for TypedAtom {
+    fn drop(self) {
+        let TypedAtom { builtin: _, atom } = self;
+        drop(atom);
     }
 }

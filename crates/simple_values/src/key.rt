@@ -9,7 +9,7 @@ use xs_lists::Listed;
 
 /// What a value is, whatever type accepted it. Two values are the same exactly where their keys are equal, and a key may
 /// be one of a hashed map.
-#[derive(Drop, PartialEq, Eq, Hash)]
+#[derive(PartialEq, Eq, Hash)]
 pub enum Key {
     /// That of an atom.
     Atom(Atom),
@@ -38,7 +38,6 @@ pub fn same_key(a: &Key, b: &Key) -> bool
 }
 
 /// The items of a list's key.
-#[derive(Drop)]
 pub struct KeyItems {
     inner: Listed<Atom>,
 }
@@ -114,5 +113,21 @@ impl Hash for KeyItems {
 
     fn hash<H: Hasher>(&self, state: &mut H) {
         self.inner.as_slice().hash(state);
+    }
+}
+
+impl Drop for Key {
+    fn drop(self) {
+        match self {
+            Key::Atom(atom) => drop(atom),
+            Key::List(list) => drop(list),
+        }
+    }
+}
+
+impl Drop for KeyItems {
+    fn drop(self) {
+        let KeyItems { inner } = self;
+        drop(inner);
     }
 }

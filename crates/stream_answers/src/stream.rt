@@ -156,15 +156,4 @@ impl Stream {
             ),
         }
     }
-
-    /// Lets go of it.
-    pub fn close(self) {
-        let Stream {
-            wanted: _,
-            place,
-            work,
-        } = self;
-        work.close();
-        drop(place);
-    }
 }

@@ -3,7 +3,7 @@ use Rattle.std.proofs.Common.{◌≡◌, ◌∙◌, ◌<◌, ℕ, List, [], ◌�
 use Rattle.std.proofs.lemmas.List.{reverse-append, reverse-reverse}
 use Rattle.std.proofs.lemmas.List.Elements.{All-nil, All-cons, All-head, All-tail, All-append}
 use Rattle.std.proofs.lemmas.Simd.{map-map}
-use Rattle.indexmap.proofs.ReorderLemmas.{map-reverse}
+use Rattle.xs_names.proofs.ScopeLaws.{map-reverse}
 use Rattle.xs_names.specs.declared.scope.ScopeBinding.{ScopeBinding}
 use Rattle.xs_names.specs.Names.{NameTable}
 use Rattle.xs_names.specs.Scope.{prefix_and_space}

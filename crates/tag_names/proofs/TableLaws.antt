@@ -7,7 +7,7 @@ use Rattle.std.proofs.lemmas.List.{length-append, length-reverse, length-drop, r
 use Rattle.std.proofs.lemmas.Map.Text.{hash_map_updates_text}
 use Rattle.std.proofs.lemmas.Option.{slice_get_read, slice_get_within, get_or_from_slice_get}
 use Rattle.std.proofs.lemmas.Slice.Eq.{bytes_eq-Decides}
-use Rattle.indexmap.specs.IndexMap.{IndexMap, get_by_text, UpdatesBy}
+use Rattle.std.specs.HashMap.{HashMap, get_by_text, UpdatesBy}
 use Rattle.xs_names.proofs.NumberingLaws.{slice_get-Begins}
 use Rattle.tree_rows.specs.declared.row.Binding.{Binding}
 use Rattle.tag_names.specs.Scopes.{of_prefix}
@@ -55,31 +55,31 @@ of_prefix-no_place (e ∷ older) prefix p = by (bytes_eq e.binding.prefix prefix
 
 module _ {Z S : Type 0} where
   -- a look-up
-  pub within-place : (items : List Entry) (latest : IndexMap (String Z) ℕ S) (prefix : List ℕ) (i : ℕ) → IsTable (reverse items) latest → Some i ≡ get_by_text latest prefix → i < length items
+  pub within-place : (items : List Entry) (latest : HashMap (String Z) ℕ S) (prefix : List ℕ) (i : ℕ) → IsTable (reverse items) latest → Some i ≡ get_by_text latest prefix → i < length items
   within-place items latest prefix i t e =
       let f = at_place (reverse items) prefix i (sym (e ∙ t.places prefix)) in
       slice_get_within items i f.0 (ap (λ l. slice_get l i) (sym (reverse-reverse items)) ∙ f.1)
 
-  pub of_prefix-place : (items : List Entry) (latest : IndexMap (String Z) ℕ S) (prefix : List ℕ) (i : ℕ) (x : Entry) → IsTable (reverse items) latest → Some i ≡ get_by_text latest prefix
+  pub of_prefix-place : (items : List Entry) (latest : HashMap (String Z) ℕ S) (prefix : List ℕ) (i : ℕ) (x : Entry) → IsTable (reverse items) latest → Some i ≡ get_by_text latest prefix
       → x ≡ get_or items i x → Some x.binding.namespace ≡ of_prefix (bindings_of (reverse items)) prefix
   of_prefix-place items latest prefix i x t e at_i =
       let f = at_place (reverse items) prefix i (sym (e ∙ t.places prefix)) in
       let same : x ≡ f.0 = at_i ∙ get_or_from_slice_get items i f.0 x (ap (λ l. slice_get l i) (sym (reverse-reverse items)) ∙ f.1) in
       ap (λ y. Some y.binding.namespace) same ∙ sym f.2
 
-  pub of_prefix-unbound : (items : List Entry) (latest : IndexMap (String Z) ℕ S) (prefix : List ℕ) → IsTable (reverse items) latest → None ≡ get_by_text latest prefix
+  pub of_prefix-unbound : (items : List Entry) (latest : HashMap (String Z) ℕ S) (prefix : List ℕ) → IsTable (reverse items) latest → None ≡ get_by_text latest prefix
       → None ≡ of_prefix (bindings_of (reverse items)) prefix
   of_prefix-unbound items latest prefix t e = sym (of_prefix-no_place (reverse items) prefix (sym (e ∙ t.places prefix)))
 
   -- one more binding
-  pushed : (entries : List Entry) (old new : IndexMap (String Z) ℕ S) (e : Entry) → IsTable entries old → e.hidden ≡ get_by_text old e.binding.prefix
+  pushed : (entries : List Entry) (old new : HashMap (String Z) ℕ S) (e : Entry) → IsTable entries old → e.hidden ≡ get_by_text old e.binding.prefix
       → ((p : List ℕ) → get_by_text new p ≡ update bytes_eq (get_by_text old) e.binding.prefix (Some (length entries)) p) → IsTable (e ∷ entries) new
   pushed entries old new e t hidden updates = record {
     places = λ p. updates p ∙ ap (λ r. cond (bytes_eq e.binding.prefix p) (Some (length entries)) r) (t.places p);
     hides = (hidden ∙ t.places e.binding.prefix, t.hides);
   }
 
-  pub IsTable-bound : (items grown : List Entry) (e : Entry) (old new : IndexMap (String Z) ℕ S) (prefix : List ℕ) (place : ℕ) → IsTable (reverse items) old → grown ≡ items ++ e ∷ []
+  pub IsTable-bound : (items grown : List Entry) (e : Entry) (old new : HashMap (String Z) ℕ S) (prefix : List ℕ) (place : ℕ) → IsTable (reverse items) old → grown ≡ items ++ e ∷ []
       → e.hidden ≡ get_by_text old e.binding.prefix → prefix ≡ e.binding.prefix → place ≡ length items
       → UpdatesBy string_eq (λ k. bytes_eq prefix (string_bytes k)) old new (Some place) → IsTable (reverse grown) new
   IsTable-bound items grown e old new prefix place t g hidden is_prefix is_place h =
@@ -89,7 +89,7 @@ module _ {Z S : Type 0} where
       subst (λ l. IsTable l new) (sym (ap reverse g ∙ reverse-push items e)) (pushed (reverse items) old new e t hidden wanted)
 
   -- one binding fewer
-  popped : (entries : List Entry) (old new : IndexMap (String Z) ℕ S) (e : Entry) → IsTable (e ∷ entries) old
+  popped : (entries : List Entry) (old new : HashMap (String Z) ℕ S) (e : Entry) → IsTable (e ∷ entries) old
       → ((p : List ℕ) → get_by_text new p ≡ update bytes_eq (get_by_text old) e.binding.prefix e.hidden p) → IsTable entries new
   popped entries old new e t updates = record { places = λ p. updates p ∙ by p (bytes_eq e.binding.prefix p) refl (t.places p); hides = t.hides.1 }
     where
@@ -97,14 +97,14 @@ module _ {Z S : Type 0} where
       by p true s f = let same : e.binding.prefix ≡ p = (bytes_eq-Decides e.binding.prefix p).0 s in rw s (t.hides.0 ∙ ap (place_of entries) same)
       by p false s f = rw s (rw s at f)
 
-  pub IsTable-unbound : (items kept : List Entry) (e : Entry) (old new : IndexMap (String Z) ℕ S) (prefix : List ℕ) → IsTable (reverse items) old → items ≡ kept ++ e ∷ [] → prefix ≡ e.binding.prefix
+  pub IsTable-unbound : (items kept : List Entry) (e : Entry) (old new : HashMap (String Z) ℕ S) (prefix : List ℕ) → IsTable (reverse items) old → items ≡ kept ++ e ∷ [] → prefix ≡ e.binding.prefix
       → ((p : List ℕ) → get_by_text new p ≡ update bytes_eq (get_by_text old) prefix e.hidden p) → IsTable (reverse kept) new
   IsTable-unbound items kept e old new prefix t g is_prefix updates =
       popped (reverse kept) old new e (subst (λ l. IsTable l old) (reversed-last items kept e g) t)
       (λ p. updates p ∙ ap (λ q. update bytes_eq (get_by_text old) q e.hidden p) is_prefix)
 
   -- the prefix of the latest binding has a place
-  pub latest-known : (items kept : List Entry) (e : Entry) (old : IndexMap (String Z) ℕ S) (prefix : List ℕ) → IsTable (reverse items) old → items ≡ kept ++ e ∷ [] → prefix ≡ e.binding.prefix
+  pub latest-known : (items kept : List Entry) (e : Entry) (old : HashMap (String Z) ℕ S) (prefix : List ℕ) → IsTable (reverse items) old → items ≡ kept ++ e ∷ [] → prefix ≡ e.binding.prefix
       → IsSome (get_by_text old prefix)
   latest-known items kept e old prefix t g is_prefix =
       let same : bytes_eq e.binding.prefix prefix ≡ true = (bytes_eq-Decides e.binding.prefix prefix).1 (sym is_prefix) in
@@ -123,6 +123,6 @@ truncate-more now new old len gone n le e lt long one =
     (omega (arith, length-drop gone old, ap length e), one ∙ ap (drop 1) e ∙ drop-drop 1 gone old)
 
 -- the table after the latest binding of the prefix was taken out or written over
-pub restored : {Z S : Type 0} (old new : IndexMap (String Z) ℕ S) (prefix : List ℕ) (hidden given : Option ℕ) → given ≡ hidden → UpdatesBy string_eq (λ k. bytes_eq prefix (string_bytes k)) old new hidden
+pub restored : {Z S : Type 0} (old new : HashMap (String Z) ℕ S) (prefix : List ℕ) (hidden given : Option ℕ) → given ≡ hidden → UpdatesBy string_eq (λ k. bytes_eq prefix (string_bytes k)) old new hidden
     → (other : List ℕ) → get_by_text new other ≡ update bytes_eq (get_by_text old) prefix given other
 restored old new prefix hidden given e h other = hash_map_updates_text prefix old new hidden h other ∙ ap (λ w. update bytes_eq (get_by_text old) prefix w other) (sym e)

@@ -1,10 +1,10 @@
-ghost use Rattle.std.specs.Prelude.{◌≡◌, ◌++◌, IfOk};
+ghost use Rattle.std.specs.Prelude.{◌≡◌, ◌++◌, IsNone, IfOk};
 ghost use Rattle.std.specs.Option.{option_copied};
 ghost use Rattle.tag_names.specs.Faults as faults;
 ghost use Rattle.tag_names.specs.Resolving as resolving;
 ghost use Rattle.tag_names.specs.Scopes as scopes;
 
-use crate::parts::{binds, parts_of};
+use crate::parts::{NameParts, binds, parts_of};
 use crate::{NameReason, Prefixes};
 use std::alloc::AllocError;
 use tree_rows::Expanded;
@@ -146,18 +146,29 @@ pub(crate) fn is_xmlns(prefix: Option<&str>) -> bool
     }
 }
 
+/// The local part of a name that has these parts. A name without a prefix is its own; others' come from the pool.
+fn local_part(pool: &mut TextPool, name: &Text, parts: &NameParts<'_>) -> Result<Text, AllocError>
+    requires { IsNone parts.now.prefix → parts.now.local.now ≡ name.now }
+    ensures { IfOk result (λ local. local ≡ parts.now.local.now) }
+{
+    match parts.prefix {
+        None => name.try_clone(),
+        Some(_) => pool.text(parts.local),
+    }
+}
+
 /// The name of an element in a scope, where these bindings come before it.
 pub(crate) fn judged_element(
     own: Option<&Prefixes>,
     scope: &Prefixes,
     pool: &mut TextPool,
-    name: &str,
+    name: &Text,
 ) -> Result<JudgedName, AllocError>
     ensures { IfOk result (λ judged. judged ≡ resolving.judged_element (scopes.own_of (option_copied own.entry) ++ scope.now) name.now) }
 {
-    let parts = parts_of(name);
+    let parts = parts_of(name.as_str());
     let space = element_space(own, scope, parts.prefix)?;
-    let local = pool.text(parts.local)?;
+    let local = local_part(pool, name, &parts)?;
     Ok(JudgedName {
         name: Expanded {
             namespace: space.namespace,
@@ -174,13 +185,13 @@ pub(crate) fn judged_attribute(
     own: Option<&Prefixes>,
     scope: &Prefixes,
     pool: &mut TextPool,
-    name: &str,
+    name: &Text,
 ) -> Result<JudgedName, AllocError>
     ensures { IfOk result (λ judged. judged ≡ resolving.judged_attribute (scopes.own_of (option_copied own.entry) ++ scope.now) name.now) }
 {
-    let parts = parts_of(name);
+    let parts = parts_of(name.as_str());
     let space = attribute_space(own, scope, parts.prefix)?;
-    let local = pool.text(parts.local)?;
+    let local = local_part(pool, name, &parts)?;
     Ok(JudgedName {
         name: Expanded {
             namespace: space.namespace,
@@ -188,6 +199,6 @@ pub(crate) fn judged_attribute(
         },
         bad: parts.bad,
         unbound: space.unbound,
-        reserved: binds(name),
+        reserved: binds(name.as_str()),
     })
 }

@@ -15,7 +15,6 @@ pub struct AttributeLine {
 }
 
 /// Lines as they are kept.
-#[derive(Drop)]
 pub(crate) enum KeptLines {
     /// So many as an element may have. They share the texts that came.
     Few(Listed<AttributeLine>),
@@ -95,8 +94,24 @@ impl AttributeLines {
 }
 
 /// A start line with its attribute lines, as they are written.
-#[derive(Drop)]
 pub struct Tag {
     pub name: Text,
     pub attributes: AttributeLines,
+}
+
+impl Drop for KeptLines {
+    fn drop(self) {
+        match self {
+            KeptLines::Few(few) => drop(few),
+            KeptLines::Many(many) => drop(many),
+        }
+    }
+}
+
+impl Drop for Tag {
+    fn drop(self) {
+        let Tag { name, attributes } = self;
+        drop(name);
+        drop(attributes);
+    }
 }

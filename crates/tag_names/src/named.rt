@@ -110,7 +110,7 @@ impl JudgedLines {
                 Ok(())
             }
             None => {
-                let judged = judged_attribute(own, scope, pool, name)?;
+                let judged = judged_attribute(own, scope, pool, &line.name)?;
                 self.put_attribute(judged, line)?;
                 Ok(())
             }
@@ -128,8 +128,9 @@ pub(crate) fn judged_lines(
 ) -> Result<JudgedLines, AllocError>
     ensures { IfOk result (λ judged. judged ≡ resolving.judged_lines (scopes.own_of (option_copied own.entry) ++ scope.now) lines.now) }
 {
+    let attributes = Vec::with_capacity(alloc, lines.len())?;
     let mut judged = JudgedLines {
-        attributes: Attributes::new(alloc),
+        attributes: Attributes::from_vec(attributes),
         bad: false,
         unbound: false,
     };

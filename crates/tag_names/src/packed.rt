@@ -143,7 +143,6 @@ fn sum(one: usize, other: usize) -> Result<usize, AllocError>
 }
 
 /// Attribute lines whose characters stand one behind the other. Contracts see the list of the lines.
-#[derive(Drop)]
 pub(crate) struct PackedLines {
     alloc: Global,
     text: String,
@@ -243,5 +242,17 @@ impl PackedLines {
             self.text.as_str(),
             self.spots.as_slice(),
         )
+    }
+}
+
+impl Drop for PackedLines {
+    fn drop(self) {
+        let PackedLines {
+            alloc: _,
+            text,
+            spots,
+        } = self;
+        drop(text);
+        drop(spots);
     }
 }

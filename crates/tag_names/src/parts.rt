@@ -1,4 +1,4 @@
-ghost use Rattle.std.specs.Prelude.{◌≡◌};
+ghost use Rattle.std.specs.Prelude.{◌≡◌, IsNone};
 ghost use Rattle.std.specs.Option.{option_copied};
 ghost use Rattle.tag_names.specs.Faults as faults;
 ghost use Rattle.tag_names.specs.Resolving.{binds};
@@ -20,6 +20,7 @@ pub(crate) struct NameParts<'a> {
 pub(crate) fn parts_of(name: &str) -> NameParts<'_>
     ensures prefix { option_copied result.prefix ≡ tags.prefix_of name.now }
     ensures local { result.local.now ≡ tags.local_of name.now }
+    ensures whole { IsNone result.prefix → result.local.now ≡ name.now }
     ensures bad { result.bad ≡ faults.is_no_qname name.now }
 {
     match split_qname(name) {

@@ -1,14 +1,14 @@
 ghost use Rattle.std.specs.Prelude.{◌≡◌, ◌<◌, ◌∷◌, ◌++◌, [], ◌-◌, ℕ, List, All, drop, length, map, reverse, IsSome, bytes_eq, IfOk, OnOk, OnErr};
 ghost use Rattle.std.specs.Option.{option_copied};
 ghost use Rattle.std.specs.Map.{update};
-ghost use Rattle.indexmap.specs.IndexMap.{get_by_text};
+ghost use Rattle.std.specs.HashMap.{get_by_text};
 ghost use Rattle.tag_names.specs.Scopes as scopes;
 ghost use Rattle.tag_names.specs.Tables.{bindings_of};
 ghost use Rattle.tree_rows.specs.declared.row.Binding.{Binding};
 ghost use Rattle.xs_names.specs.Scope.{prefix_and_space};
 
-use indexmap::IndexMap;
 use std::alloc::{AllocError, Global};
+use std::collections::HashMap;
 use std::marker::Model;
 use tree_rows::Binding;
 use xs_names::{Names, Scope, ScopeBinding, Text, XML_NAMESPACE};
@@ -27,13 +27,13 @@ fn copy_of(binding: &Binding) -> Result<Binding, AllocError>
 const FEW: usize = 4;
 
 /// Gives the prefix the place of the binding that was hidden, or none.
-fn restore(latest: &mut IndexMap<String, usize>, prefix: &str, hidden: Option<usize>)
+fn restore(latest: &mut HashMap<String, usize>, prefix: &str, hidden: Option<usize>)
     requires { IsSome (get_by_text latest.old prefix.now) }
     ensures { (other : List ℕ) → get_by_text latest.new other ≡ update bytes_eq (get_by_text latest.old) prefix.now hidden other }
 {
     match hidden {
         None => {
-            latest.swap_remove(prefix);
+            latest.remove(prefix);
         }
         Some(place) => {
             if let Some(shown) = latest.get_mut(prefix) {
@@ -69,13 +69,12 @@ fn latest_among<'a>(entries: &'a [Entry], prefix: &str) -> Option<&'a Text>
 /// The empty prefix stands for the default namespace. Before an element's bindings `len` tells where its scope began, and
 /// after the element `truncate` goes back there. A prefix is looked up in a time that does not grow with the bindings
 /// (expected, by hashing).
-#[derive(Drop)]
 pub struct Prefixes {
     alloc: Global,
     /// The bindings in the order of coming.
     entries: Vec<Entry>,
     /// The place of the latest binding of each prefix that is bound.
-    latest: IndexMap<String, usize>,
+    latest: HashMap<String, usize>,
 }
 
 impl Model for Prefixes {
@@ -146,7 +145,7 @@ impl Prefixes {
         Prefixes {
             alloc,
             entries: Vec::new(alloc),
-            latest: IndexMap::new(alloc),
+            latest: HashMap::new(alloc),
         }
     }
 
@@ -176,7 +175,8 @@ impl Prefixes {
         requires { All (λ bound. bound.1 < length names.now.spaces) scope.now }
         ensures { IfOk result (λ prefixes. prefixes ≡ map (scopes.binding_in names.now) scope.now) }
     {
-        bound_by_name(alloc, names, scope.bindings())
+        let bindings = scope.to_bindings()?;
+        bound_by_name(alloc, names, bindings.as_slice())
     }
 
     /// Binds a prefix, or the default namespace. Earlier bindings of it are hidden.
@@ -269,5 +269,17 @@ impl Prefixes {
         ensures { IfOk result (λ copy. copy ≡ self.now) }
     {
         bound_copies(alloc, self.entries.as_slice())
+    }
+}
+
+impl Drop for Prefixes {
+    fn drop(self) {
+        let Prefixes {
+            alloc: _,
+            entries,
+            latest,
+        } = self;
+        drop(entries);
+        drop(latest);
     }
 }

@@ -14,7 +14,7 @@ use crate::parts::parts_of;
 use crate::{AttributeLine, NameReason, Named, PackedLines, Prefixes, Tag, TagFaults};
 use std::alloc::{AllocError, Global};
 use tree_rows::{Attribute, Attributes, Binding, Bindings, Expanded, MAX_ATTRIBUTES};
-use xs_names::{TextPool, XML_NAMESPACE, XMLNS_NAMESPACE};
+use xs_names::{Text, TextPool, XML_NAMESPACE, XMLNS_NAMESPACE};
 
 /// What a tag says of its element, and what stands against its names.
 #[derive(Drop)]
@@ -87,7 +87,7 @@ fn judged_alone(
     alloc: Global,
     scope: &Prefixes,
     pool: &mut TextPool,
-    name: &str,
+    name: &Text,
 ) -> Result<JudgedTag, AllocError>
     ensures { IfOk result (λ judged. judged ≡ resolving.judged scope.now (record { name = name.now; attributes = [] })) }
 {
@@ -113,7 +113,7 @@ fn judged_with(
     alloc: Global,
     scope: &Prefixes,
     pool: &mut TextPool,
-    name: &str,
+    name: &Text,
     lines: &[AttributeLine],
 ) -> Result<JudgedTag, AllocError>
     ensures { IfOk result (λ judged. judged ≡ resolving.judged scope.now (record { name = name.now; attributes = lines.now })) }
@@ -182,7 +182,7 @@ impl Tag {
     ) -> Result<JudgedTag, AllocError>
         ensures { IfOk result (λ judged. judged ≡ resolving.judged scope.now self.now) }
     {
-        let name = self.name.as_str();
+        let name = &self.name;
         match self.attributes.kept() {
             KeptLines::Few(lines) => judged_with(alloc, scope, pool, name, lines.as_slice()),
             KeptLines::Many(packed) => {
@@ -203,7 +203,7 @@ impl Tag {
         ensures bindings { IfOk result (λ tested. tested.bindings ≡ tags.bindings_in self.now.attributes) }
         ensures faults { IfOk result (λ tested. tested.faults ≡ resolving.faults_of scope.now self.now) }
     {
-        let name = self.name.as_str();
+        let name = &self.name;
         match self.attributes.kept() {
             KeptLines::Few(lines) => {
                 let JudgedTag { named, faults } = judged_with(
@@ -218,7 +218,7 @@ impl Tag {
                     faults,
                 })
             }
-            KeptLines::Many(packed) => tested_with(alloc, scope, name, packed),
+            KeptLines::Many(packed) => tested_with(alloc, scope, name.as_str(), packed),
         }
     }
 
@@ -278,7 +278,8 @@ impl Prefixes {
     ) -> Result<Result<Expanded, NameReason>, AllocError>
         ensures { IfOk result (λ end. end ≡ resolving.element_resolved self.now name.now) }
     {
-        let judged = judged_element(None, self, pool, name)?;
+        let name = pool.text(name)?;
+        let judged = judged_element(None, self, pool, &name)?;
         Ok(judged.end())
     }
 
@@ -296,7 +297,8 @@ impl Prefixes {
     ) -> Result<Result<Expanded, NameReason>, AllocError>
         ensures { IfOk result (λ end. end ≡ resolving.attribute_resolved self.now name.now) }
     {
-        let judged = judged_attribute(None, self, pool, name)?;
+        let name = pool.text(name)?;
+        let judged = judged_attribute(None, self, pool, &name)?;
         Ok(judged.end())
     }
 }

@@ -11,7 +11,6 @@ use xs_lists::Listed;
 use xs_names::NameId;
 
 /// What is found out about an element, under its number.
-#[derive(Drop)]
 pub struct ElementEntry {
     pub number: u32,
     /// The number of the element that bears the IDs of its text: its parent, or the element itself where it is the root
@@ -76,5 +75,24 @@ pub(crate) fn begun(alloc: Global, number: u32, governing: Governing, name: Name
         value: None,
         attrs: Listed::new(alloc),
         attr_values: AttrValues::new(alloc),
+    }
+}
+
+impl Drop for ElementEntry {
+    fn drop(self) {
+        let ElementEntry {
+            number: _,
+            bearer: _,
+            below: _,
+            governing: _,
+            element,
+            value,
+            attrs,
+            attr_values,
+        } = self;
+        drop(element);
+        drop(value);
+        drop(attrs);
+        drop(attr_values);
     }
 }

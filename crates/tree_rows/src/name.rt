@@ -7,7 +7,6 @@ use xs_names::Text;
 
 /// An expanded name: the name of a namespace, `None` for the absent one, with a local part
 /// (Namespaces in XML 1.0, 2.1).
-#[derive(Drop)]
 pub struct Expanded {
     pub namespace: Option<Text>,
     pub local: Text,
@@ -69,5 +68,13 @@ impl Expanded {
                 Text::from_string(text)
             }
         }
+    }
+}
+
+impl Drop for Expanded {
+    fn drop(self) {
+        let Expanded { namespace, local } = self;
+        drop(namespace);
+        drop(local);
     }
 }

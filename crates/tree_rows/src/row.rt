@@ -3,7 +3,6 @@ use xs_lists::Listed;
 use xs_names::Text;
 
 /// An attribute that is no binding.
-#[derive(Drop)]
 pub struct Attribute {
     pub name: Expanded,
     pub value: Text,
@@ -11,7 +10,6 @@ pub struct Attribute {
 
 /// The binding of a prefix to a namespace. The empty prefix stands for the default namespace, and the empty
 /// namespace for the absent one (Namespaces in XML 1.0, 3 and 6.2).
-#[derive(Drop)]
 pub struct Binding {
     pub prefix: Text,
     pub namespace: Text,
@@ -24,7 +22,6 @@ pub type Attributes = Listed<Attribute>;
 pub type Bindings = Listed<Binding>;
 
 /// What a node is.
-#[derive(Drop)]
 pub enum Content {
     /// An element, by its name.
     Element(Expanded),
@@ -40,7 +37,6 @@ pub enum NodeKind {
 }
 
 /// A node of a tree, as it stands in document order.
-#[derive(Drop)]
 pub struct Row {
     /// The node's number, from 1.
     pub number: u32,
@@ -51,4 +47,44 @@ pub struct Row {
     pub bindings: Bindings,
     /// The attributes of an element, in order; a text has none.
     pub attributes: Attributes,
+}
+
+impl Drop for Binding {
+    fn drop(self) {
+        let Binding { prefix, namespace } = self;
+        drop(prefix);
+        drop(namespace);
+    }
+}
+
+impl Drop for Attribute {
+    fn drop(self) {
+        let Attribute { name, value } = self;
+        drop(name);
+        drop(value);
+    }
+}
+
+impl Drop for Content {
+    fn drop(self) {
+        match self {
+            Content::Element(element) => drop(element),
+            Content::Chars(chars) => drop(chars),
+        }
+    }
+}
+
+impl Drop for Row {
+    fn drop(self) {
+        let Row {
+            number: _,
+            depth: _,
+            content,
+            bindings,
+            attributes,
+        } = self;
+        drop(content);
+        drop(bindings);
+        drop(attributes);
+    }
 }

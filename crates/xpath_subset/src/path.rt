@@ -27,7 +27,6 @@ pub enum Step {
 }
 
 /// A path from an element to elements or attributes (Structures 3.11.6).
-#[derive(Drop)]
 pub struct Path {
     /// Whether `.//` comes first, so that the steps begin at the element and at each element below it.
     pub anywhere: bool,
@@ -150,4 +149,16 @@ pub fn is_reached(
         .as_slice()
         .iter()
         .any(|path| path.reaches(names, elements, attribute))
+}
+
+impl Drop for Path {
+    fn drop(self) {
+        let Path {
+            anywhere: _,
+            steps,
+            attribute,
+        } = self;
+        drop(steps);
+        drop(attribute);
+    }
 }

@@ -9,7 +9,6 @@ use crate::Paths;
 use xs_lists::Listed;
 
 /// The paths of an identity constraint, read in the scopes of the elements in which they are written.
-#[derive(Drop)]
 pub struct IdentityPaths {
     /// Those of the selector.
     pub selector: Paths,
@@ -21,3 +20,11 @@ pub struct IdentityPaths {
 pub fn paths_go_by_the_constraint()
     ensures one { (c : Constraint) (one other : IdentityPathsData) → ArePathsOf c one → ArePathsOf c other → one ≡ other }
 {}
+
+impl Drop for IdentityPaths {
+    fn drop(self) {
+        let IdentityPaths { selector, fields } = self;
+        drop(selector);
+        drop(fields);
+    }
+}

@@ -44,7 +44,6 @@ pub struct AttributeDecl {
 }
 
 /// A use of an attribute (Structures 3.5.1).
-#[derive(Drop)]
 pub struct AttrUse {
     pub attribute: AttributeId,
     pub at: Place,
@@ -111,5 +110,17 @@ impl Components {
         ensures few { length self.now.attributes.parts < 2 ^ 32 }
     {
         self.attributes.ranks()
+    }
+}
+
+impl Drop for AttrUse {
+    fn drop(self) {
+        let AttrUse {
+            attribute: _,
+            at: _,
+            required: _,
+            value,
+        } = self;
+        drop(value);
     }
 }

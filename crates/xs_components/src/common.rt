@@ -43,7 +43,6 @@ pub type TypeIdList = Listed<TypeId>;
 pub type NameIdList = Listed<NameId>;
 
 /// A default or fixed value (Structures 3.2.1, 3.3.1), and the scope in which its text is read.
-#[derive(Drop)]
 pub struct ValueConstraint {
     pub fixed: bool,
     pub text: Text,
@@ -59,8 +58,30 @@ pub enum Process {
 }
 
 /// A wildcard (Structures 3.10.1).
-#[derive(Clone, Drop)]
+#[derive(Clone)]
 pub struct Wildcard {
     pub namespaces: NsConstraint,
     pub process: Process,
+}
+
+impl Drop for Wildcard {
+    fn drop(self) {
+        let Wildcard {
+            namespaces,
+            process: _,
+        } = self;
+        drop(namespaces);
+    }
+}
+
+impl Drop for ValueConstraint {
+    fn drop(self) {
+        let ValueConstraint {
+            fixed: _,
+            text,
+            scope,
+        } = self;
+        drop(text);
+        drop(scope);
+    }
 }

@@ -35,7 +35,6 @@ impl ComplexId {
 }
 
 /// The content of a complex type, as it is written (Structures 3.4.2).
-#[derive(Drop)]
 pub enum ContentForm {
     /// Simple content: the simple type that stands in the restriction, if one does, and the facets.
     Simple {
@@ -167,5 +166,17 @@ impl Components {
         ensures part { self.new ≡ record self.old { complexes = with_other self.old.complexes id part } }
     {
         self.complexes.set(id.number, part);
+    }
+}
+
+impl Drop for ContentForm {
+    fn drop(self) {
+        match self {
+            ContentForm::Simple { own: _, step } => drop(step),
+            ContentForm::Complex {
+                effective: _,
+                mixed: _,
+            } => {}
+        }
     }
 }

@@ -14,7 +14,6 @@ use std::marker::Model;
 ///
 /// A component has its number from the order of adding, and a rank, which is 0 at first and serves those who go along
 /// references. Contracts see a record of lists, with the ranks in lists of their own.
-#[derive(Drop)]
 pub struct Components {
     pub rules: Rules,
     pub(crate) simples: Table<SimpleType>,
@@ -67,5 +66,31 @@ impl Components {
             constraints: Table::new(alloc),
             particles: Table::new(alloc),
         })
+    }
+}
+
+impl Drop for Components {
+    fn drop(self) {
+        let Components {
+            rules: _,
+            simples,
+            complexes,
+            contents,
+            elements,
+            attributes,
+            groups,
+            attr_groups,
+            constraints,
+            particles,
+        } = self;
+        drop(simples);
+        drop(complexes);
+        drop(contents);
+        drop(elements);
+        drop(attributes);
+        drop(groups);
+        drop(attr_groups);
+        drop(constraints);
+        drop(particles);
     }
 }

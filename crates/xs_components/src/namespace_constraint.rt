@@ -14,7 +14,7 @@ use xs_names::NsId;
 pub type NsIdList = Listed<NsId>;
 
 /// The namespaces that a wildcard admits (Structures 3.10.1). Contracts see the set of them.
-#[derive(Clone, Drop)]
+#[derive(Clone)]
 pub enum NsConstraint {
     /// Every namespace, and the absent one.
     Any,
@@ -193,4 +193,14 @@ fn merged(alloc: Global, first: &[NsId], second: &[NsId]) -> Result<NsIdList, Al
         }
     }
     Ok(all)
+}
+
+impl Drop for NsConstraint {
+    fn drop(self) {
+        match self {
+            NsConstraint::Any => {}
+            NsConstraint::Not(_) => {}
+            NsConstraint::In(in_) => drop(in_),
+        }
+    }
 }

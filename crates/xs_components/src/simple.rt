@@ -74,7 +74,6 @@ pub enum SimpleForm {
 }
 
 /// A simple type definition (Structures 3.14.1).
-#[derive(Drop)]
 pub struct SimpleType {
     /// None for a type without a name of its own.
     pub name: Option<NameId>,
@@ -147,5 +146,17 @@ impl Components {
         ensures part { self.new ≡ record self.old { simples = with_other self.old.simples id part } }
     {
         self.simples.set(id.number, part);
+    }
+}
+
+impl Drop for SimpleType {
+    fn drop(self) {
+        let SimpleType {
+            name: _,
+            at: _,
+            finals: _,
+            form,
+        } = self;
+        drop(form);
     }
 }

@@ -1,11 +1,12 @@
+mod AbsentLaws
 mod CharacterLaws
 pub mod GrownLaws
 mod KeptLaws
 mod NumberedLaws
 pub mod NumberingLaws
-mod PoolLaws
 mod QNameLaws
-mod ScopeLaws
+pub mod ScopeLaws
 pub mod Again
+pub mod Bare
 pub mod Joining
 pub mod Spacing

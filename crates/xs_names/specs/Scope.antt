@@ -1,5 +1,5 @@
 -- The prefixes in scope: Namespaces in XML 1.0, 6. A scope is its bindings of prefixes to namespaces, the latest first.
-use Rattle.std.specs.Prelude.{◌≡◌, ℕ, ◌-◌, List, [], ◌∷◌, Option, None, Some, drop, length, bytes_eq, codes, unwrap_or, if◌then◌else◌, refl}
+use Rattle.std.specs.Prelude.{◌≡◌, ℕ, List, [], ◌∷◌, Option, None, Some, bytes_eq, codes, unwrap_or, if◌then◌else◌, refl}
 use Rattle.xs_names.specs.declared.scope.ScopeBinding.{ScopeBinding}
 
 -- the prefix and the namespace of a binding
@@ -19,10 +19,6 @@ binding_of (binding ∷ scope) prefix = if bytes_eq binding.0 prefix then Some b
 abbrev pub resolved : List (List ℕ × ℕ) → Option (List ℕ) → Option ℕ
 resolved scope (Some prefix) = binding_of scope prefix
 resolved scope None = Some (unwrap_or (binding_of scope []) 0)
-
--- the oldest n bindings
-abbrev pub oldest : ℕ → List (List ℕ × ℕ) → List (List ℕ × ℕ)
-oldest n scope = drop (length scope - n) scope
 
 -- for example
 pub example-latest : resolved ((codes "p", 3) ∷ (codes "p", 2) ∷ first_scope) (Some (codes "p")) ≡ Some 3

@@ -1,7 +1,7 @@
 -- White space, Datatypes 4.3.6, and the items of a list, Datatypes 4.2.1.2. Texts are bytes in UTF-8: the four characters
 -- of white space are one byte each, and no other character has these bytes.
-use Rattle.std.specs.Prelude.{◌≡◌, ℕ, ◌==◌, ◌||◌, Bool, true, false, List, [], ◌∷◌, map, filter, if◌then◌else◌, codes, refl}
-use Rattle.std.specs.List.{slice_split, join_with_byte}
+use Rattle.std.specs.Prelude.{◌≡◌, ℕ, ◌==◌, ◌||◌, not, Bool, true, false, List, [], ◌∷◌, map, filter, if◌then◌else◌, codes, refl}
+use Rattle.std.specs.List.{slice_split, join_with_byte, list_all}
 use Rattle.xs_names.specs.declared.handling.WhiteSpace.{WhiteSpace}
 use Rattle.xs_names.specs.declared.handling.WhiteSpace.TheVariants.{Preserve, Replace, Collapse}
 
@@ -36,6 +36,10 @@ abbrev pub normalized : WhiteSpace → List ℕ → List ℕ
 normalized Preserve text = text
 normalized Replace text = replaced text
 normalized Collapse text = collapsed text
+
+-- no character is white space
+abbrev pub is_bare : List ℕ → Bool
+is_bare text = list_all (λ c. not (is_space (to_space c))) text
 
 -- 4.3.6: of two ways the one that leaves less, collapse before replace and replace before preserve; a type derived from
 -- another may not treat white space by a weaker one than that does

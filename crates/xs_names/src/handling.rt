@@ -1,5 +1,5 @@
 //! The white space of a text: kept, replaced or collapsed; and the items between it.
-ghost use Rattle.std.specs.Prelude.{◌≡◌, List, ℕ, ◌++◌, ◌∷◌, [], length, IfOk, OnOk, OnErr, string_bytes};
+ghost use Rattle.std.specs.Prelude.{◌≡◌, List, ℕ, ◌++◌, ◌∷◌, [], length, IsTrue, IfOk, OnOk, OnErr, string_bytes};
 ghost use Rattle.xs_names.specs.WhiteSpace as spec;
 ghost use Rattle.xs_names.specs.declared.handling.WhiteSpace.{WhiteSpace};
 
@@ -31,7 +31,7 @@ impl WhiteSpace {
 }
 
 #[tactic(auto, using(crate::proofs::Again::again, crate::proofs::Again::same_items))]
-/// The text as a type of this handling of white space reads it (Datatypes 4.3.6).
+/// The text as a type of this handling of white space reads it (Datatypes 4.3.6). A text without white space is copied at once.
 ///
 /// To treat what comes out once more, in whatever way, is to treat the text once, in the stronger of the two; and it has
 /// the items that the text has.
@@ -40,11 +40,29 @@ pub fn normalized(alloc: Global, handling: WhiteSpace, text: &str) -> Result<Tex
     ensures again { IfOk result (λ t. (other : WhiteSpace) → spec.normalized other t ≡ spec.normalized (spec.stronger other handling) text.now) }
     ensures items { IfOk result (λ t. spec.items t ≡ spec.items text.now) }
 {
+    if is_bare(text) {
+        return Text::new(alloc, text);
+    }
     match handling {
         WhiteSpace::Preserve => Text::new(alloc, text),
         WhiteSpace::Replace => Ok(Text::from_string(replaced(alloc, text)?)?),
         WhiteSpace::Collapse => Ok(Text::from_string(collapsed(alloc, text)?)?),
     }
+}
+
+/// Whether the text has no white space: every way to treat it then leaves it as it is (Datatypes 4.3.6).
+pub fn is_bare(text: &str) -> bool
+    ensures value { result ≡ spec.is_bare text.now }
+    ensures kept { IsTrue result → (handling : WhiteSpace) → spec.normalized handling text.now ≡ text.now }
+{
+    has_no_white(text)
+}
+
+// Whether no character is white space.
+fn has_no_white(text: &str) -> bool
+    ensures { result ≡ spec.is_bare text.now }
+{
+    text.as_bytes().iter().all(|b| !is_white(*b))
 }
 
 /// The items of a list: what stands between the white space of the text, in order (Datatypes 4.2.1.2).

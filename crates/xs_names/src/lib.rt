@@ -14,7 +14,7 @@ mod texts;
 mod white;
 
 pub use characters::{is_name, is_ncname, is_nmtoken};
-pub use handling::{WhiteSpace, count_items, items, normalized};
+pub use handling::{WhiteSpace, count_items, is_bare, items, normalized};
 pub use ids::{NameId, NsId};
 pub use names::{Names, XML_NAMESPACE, XMLNS_NAMESPACE};
 pub use pool::TextPool;

@@ -16,7 +16,6 @@ pub const XMLNS_NAMESPACE: &str = "http://www.w3.org/2000/xmlns/";
 /// Namespaces, and names in them, by number. Numbers are given in the order of coming and never change.
 ///
 /// The empty namespace name is that of the absent namespace.
-#[derive(Drop)]
 pub struct Names {
     spaces: NumberedTexts,
     locals: NumberedTexts,
@@ -62,8 +61,12 @@ impl Names {
         ensures grown { Grown self.old self.new }
         ensures sound { IsSound self.new }
     {
+        let spaces = &mut self.spaces;
+        if name.is_empty() {
+            return Ok(NsId::ABSENT);
+        }
         Ok(NsId {
-            number: self.spaces.insert(name)?,
+            number: spaces.insert(name)?,
         })
     }
 
@@ -137,5 +140,18 @@ impl Names {
         } else {
             Some(self.spaces.get(ns.number))
         }
+    }
+}
+
+impl Drop for Names {
+    fn drop(self) {
+        let Names {
+            spaces,
+            locals,
+            pairs,
+        } = self;
+        drop(spaces);
+        drop(locals);
+        drop(pairs);
     }
 }

@@ -1,24 +1,24 @@
 ghost use Rattle.std.specs.Prelude.{◌≡◌, ◌<◌, ◌≤◌, ◌^◌, [], Some, length, slice_get, bytes_eq, IfOk, OnOk, OnErr};
 ghost use Rattle.xs_names.specs.Numbering.{number_of, with_item, same_pair, HasNoRepeats};
 
-use indexmap::IndexSet;
+use key_sets::{KeySet, TextSet};
 use std::alloc::{AllocError, Global};
 use std::marker::Model;
 
 /// Texts that are numbered in the order of coming. Contracts see the list of them, without repeats.
 #[derive(Drop)]
 pub(crate) struct NumberedTexts {
-    inner: IndexSet<String>,
+    inner: TextSet,
 }
 
 impl Model for NumberedTexts {
-    ghost use Rattle.std.specs.Prelude.{ℕ, ◌≤◌, ◌^◌, List, map, length, string_bytes};
+    ghost use Rattle.std.specs.Prelude.{ℕ, ◌≤◌, ◌^◌, List, length};
 
     ghost Value = { List (List ℕ) };
 
-    ghost view = { λ s. map string_bytes s.inner.keys };
+    ghost view = { λ s. s.inner };
 
-    ghost invariant = { λ s. length s.inner.keys ≤ 2 ^ 32 };
+    ghost invariant = { λ s. length s.inner ≤ 2 ^ 32 };
 }
 
 impl NumberedTexts {
@@ -27,7 +27,7 @@ impl NumberedTexts {
         ensures { result ≡ [] }
     {
         NumberedTexts {
-            inner: IndexSet::new(alloc),
+            inner: TextSet::new(alloc),
         }
     }
 
@@ -54,8 +54,7 @@ impl NumberedTexts {
         if next == 1 << 32 {
             return Err(AllocError);
         }
-        let owned = String::from_str(*self.inner.allocator(), text)?;
-        self.inner.insert(owned)?;
+        self.inner.insert(text)?;
         Ok(next as u32)
     }
 
@@ -64,7 +63,7 @@ impl NumberedTexts {
         requires { number < length self.now }
         ensures { slice_get self.now number ≡ Some result.now }
     {
-        self.inner.as_slice()[number as usize].as_str()
+        self.inner.get(number as usize)
     }
 }
 
@@ -78,7 +77,7 @@ pub(crate) struct Pair {
 /// Pairs that are numbered in the order of coming. Contracts see the list of them, without repeats.
 #[derive(Drop)]
 pub(crate) struct NumberedPairs {
-    inner: IndexSet<Pair>,
+    inner: KeySet<Pair>,
 }
 
 impl Model for NumberedPairs {
@@ -87,9 +86,9 @@ impl Model for NumberedPairs {
 
     ghost Value = { List (ℕ × ℕ) };
 
-    ghost view = { λ s. map numbers s.inner.keys };
+    ghost view = { λ s. map numbers s.inner };
 
-    ghost invariant = { λ s. length s.inner.keys ≤ 2 ^ 32 };
+    ghost invariant = { λ s. length s.inner ≤ 2 ^ 32 };
 }
 
 impl NumberedPairs {
@@ -98,7 +97,7 @@ impl NumberedPairs {
         ensures { result ≡ [] }
     {
         NumberedPairs {
-            inner: IndexSet::new(alloc),
+            inner: KeySet::new(alloc),
         }
     }
 

@@ -1,21 +1,22 @@
 ghost use Rattle.std.specs.Prelude.{◌≡◌, IfOk};
 
 use crate::Text;
-use indexmap::IndexSet;
 use std::alloc::{AllocError, Global};
+use std::collections::HashSet;
 use std::rc::RcStr;
 
 /// Texts that came, each kept once, so that a text that comes again shares the characters of the one before.
-#[derive(Drop)]
 pub struct TextPool {
-    texts: IndexSet<RcStr>,
+    alloc: Global,
+    texts: HashSet<RcStr>,
 }
 
 impl TextPool {
     /// No texts.
     pub fn new(alloc: Global) -> Self {
         TextPool {
-            texts: IndexSet::new(alloc),
+            alloc,
+            texts: HashSet::new(alloc),
         }
     }
 
@@ -28,8 +29,15 @@ impl TextPool {
                 inner: known.clone()?,
             });
         }
-        let inner = RcStr::from_str(*self.texts.allocator(), text)?;
+        let inner = RcStr::from_str(self.alloc, text)?;
         self.texts.insert(inner.clone()?)?;
         Ok(Text { inner })
+    }
+}
+
+impl Drop for TextPool {
+    fn drop(self) {
+        let TextPool { alloc: _, texts } = self;
+        drop(texts);
     }
 }

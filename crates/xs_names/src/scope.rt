@@ -1,6 +1,6 @@
-ghost use Rattle.std.specs.Prelude.{◌≡◌, ◌∷◌, ◌++◌, ℕ, List, None, Some, length, map, find, reverse, bytes_eq, IfOk, OnOk, OnErr, MatchResult};
+ghost use Rattle.std.specs.Prelude.{◌≡◌, ◌∷◌, ℕ, List, None, Some, map, find, reverse, bytes_eq, IfOk, OnOk, OnErr, MatchResult};
 ghost use Rattle.std.specs.Option.{option_map, option_copied};
-ghost use Rattle.xs_names.specs.Scope.{prefix_and_space, first_scope, binding_of, resolved, oldest};
+ghost use Rattle.xs_names.specs.Scope.{prefix_and_space, first_scope, binding_of, resolved};
 
 use crate::{NsId, Text};
 use std::alloc::{AllocError, Global};
@@ -12,7 +12,6 @@ pub struct Unbound;
 
 /// A prefix with the number of its namespace. The empty prefix is the default namespace; under the absent namespace it is
 /// undeclared.
-#[derive(Drop)]
 pub struct ScopeBinding {
     pub prefix: Text,
     pub ns: NsId,
@@ -28,23 +27,44 @@ fn latest_binding<'a>(bindings: &'a [ScopeBinding], prefix: &str) -> Option<&'a 
         .find(|binding| binding.prefix.as_str() == prefix)
 }
 
+// The namespace that a prefix has outside of all elements.
+fn first_binding(prefix: &str) -> Option<NsId>
+    ensures { result ≡ binding_of first_scope prefix.now }
+{
+    if prefix == "xml" {
+        Some(NsId::XML)
+    } else {
+        None
+    }
+}
+
+impl ScopeBinding {
+    /// The same binding once more. The characters of the prefix are shared.
+    fn try_clone(&self) -> Result<Self, AllocError>
+        ensures { IfOk result (λ copy. copy ≡ self.now) }
+    {
+        Ok(ScopeBinding {
+            prefix: self.prefix.try_clone()?,
+            ns: self.ns,
+        })
+    }
+}
+
 /// The prefixes in scope. Contracts see the bindings, each a prefix with the number of its namespace, the latest first.
 ///
-/// The empty prefix stands for the default namespace. Before an element's bindings `len` tells where its scope began, and
-/// after the element `truncate` goes back there.
-#[derive(Drop)]
+/// The empty prefix stands for the default namespace.
 pub struct Scope {
+    /// The bindings behind that of the prefix `xml`, in the order of their coming.
     bindings: Vec<ScopeBinding>,
 }
 
 impl Model for Scope {
-    ghost use Rattle.std.specs.Prelude.{ℕ, List, map, reverse};
+    ghost use Rattle.std.specs.Prelude.{List, ℕ, ◌++◌, map, reverse};
+    ghost use Rattle.xs_names.specs.Scope.{first_scope, prefix_and_space};
 
     ghost Value = { List (List ℕ × ℕ) };
 
-    ghost use Rattle.xs_names.specs.Scope.{prefix_and_space};
-
-    ghost view = { λ s. reverse (map prefix_and_space s.bindings.items) };
+    ghost view = { λ s. reverse (map prefix_and_space s.bindings.items) ++ first_scope };
 }
 
 impl Scope {
@@ -52,20 +72,17 @@ impl Scope {
     pub fn new(alloc: Global) -> Result<Self, AllocError>
         ensures { IfOk result (λ scope. scope ≡ first_scope) }
     {
-        let mut bindings = Vec::new(alloc);
-        bindings.push(ScopeBinding {
-            prefix: Text::new(alloc, "xml")?,
-            ns: NsId::XML,
-        })?;
-        Ok(Scope { bindings })
+        Ok(Scope {
+            bindings: Vec::new(alloc),
+        })
     }
 
-    /// Binds a prefix, or the default namespace where the prefix is empty. Earlier bindings of it are hidden.
-    pub fn bind(&mut self, prefix: &str, ns: NsId) -> Result<(), AllocError>
+    /// Binds a prefix, whose characters are shared, or the default namespace where the prefix is empty. Earlier bindings of it are hidden.
+    pub fn bind(&mut self, prefix: &Text, ns: NsId) -> Result<(), AllocError>
         ensures ok { OnOk result (self.new ≡ (prefix.now, ns) ∷ self.old) }
         ensures err { OnErr result (self.new ≡ self.old) }
     {
-        let prefix = Text::new(*self.bindings.allocator(), prefix)?;
+        let prefix = prefix.try_clone()?;
         self.bindings.push(ScopeBinding { prefix, ns })?;
         Ok(())
     }
@@ -92,8 +109,10 @@ impl Scope {
     fn binding(&self, prefix: &str) -> Option<NsId>
         ensures { result ≡ binding_of self.now prefix.now }
     {
-        let latest = latest_binding(&self.bindings, prefix)?;
-        Some(latest.ns)
+        match latest_binding(&self.bindings, prefix) {
+            None => first_binding(prefix),
+            Some(latest) => Some(latest.ns),
+        }
     }
 
     /// A copy with memory of its own.
@@ -102,35 +121,41 @@ impl Scope {
     {
         let alloc = *self.bindings.allocator();
         let held = self.bindings.as_slice();
-        let mut bindings = Vec::new(alloc);
+        let mut bindings = Vec::with_capacity(alloc, held.len())?;
         for binding in held {
-            bindings.push(ScopeBinding {
-                prefix: binding.prefix.try_clone()?,
-                ns: binding.ns,
-            })?;
+            bindings.push(binding.try_clone()?)?;
         }
         Ok(Scope { bindings })
     }
 
-    /// The bindings in the order of their coming.
-    pub fn bindings(&self) -> &[ScopeBinding]
-        ensures { map prefix_and_space result.now ≡ reverse self.now }
+    /// The bindings in the order of their coming, that of the prefix `xml` the first.
+    pub fn to_bindings(&self) -> Result<Vec<ScopeBinding>, AllocError>
+        ensures { IfOk result (λ all. map prefix_and_space all.items ≡ reverse self.now) }
     {
-        self.bindings.as_slice()
+        let alloc = *self.bindings.allocator();
+        let held = self.bindings.as_slice();
+        let mut all = Vec::new(alloc);
+        all.push(ScopeBinding {
+            prefix: Text::new(alloc, "xml")?,
+            ns: NsId::XML,
+        })?;
+        for binding in held {
+            all.push(binding.try_clone()?)?;
+        }
+        Ok(all)
     }
+}
 
-    /// The number of bindings.
-    pub fn len(&self) -> usize
-        ensures { result ≡ length self.now }
-    {
-        self.bindings.len()
+impl Drop for Scope {
+    fn drop(self) {
+        let Scope { bindings } = self;
+        drop(bindings);
     }
+}
 
-    /// Goes back to the scope of the first `len` bindings.
-    pub fn truncate(&mut self, len: usize)
-        ensures oldest { self.new ≡ oldest len self.old }
-        ensures back { (later earlier : List (List ℕ × ℕ)) → self.old ≡ later ++ earlier → length earlier ≡ len → self.new ≡ earlier }
-    {
-        self.bindings.truncate(len);
+impl Drop for ScopeBinding {
+    fn drop(self) {
+        let ScopeBinding { prefix, ns: _ } = self;
+        drop(prefix);
     }
 }

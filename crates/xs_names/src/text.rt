@@ -7,7 +7,6 @@ use std::rc::RcStr;
 /// A text whose characters its copies share. Contracts see its bytes in UTF-8, as they see those of a `&str`.
 ///
 /// Texts are compared by `as_str`.
-#[derive(Drop)]
 pub struct Text {
     pub(crate) inner: RcStr,
 }
@@ -55,5 +54,12 @@ impl Text {
         Ok(Text {
             inner: self.inner.clone()?,
         })
+    }
+}
+
+impl Drop for Text {
+    fn drop(self) {
+        let Text { inner } = self;
+        drop(inner);
     }
 }

@@ -7,7 +7,6 @@ use std::alloc::{AllocError, Global};
 use std::marker::Model;
 
 /// A list of texts. Contracts see the list of their bytes in UTF-8.
-#[derive(Drop)]
 pub struct Texts {
     inner: Vec<Text>,
 }
@@ -73,5 +72,12 @@ impl Texts {
         ensures value { result ≡ list_any (λ t. bytes_eq t text.now) self.now }
     {
         self.inner.iter().any(|t| t.as_str() == text)
+    }
+}
+
+impl Drop for Texts {
+    fn drop(self) {
+        let Texts { inner } = self;
+        drop(inner);
     }
 }

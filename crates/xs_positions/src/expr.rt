@@ -62,7 +62,6 @@ impl Node {
 }
 
 /// Expressions, each under its number. Contracts see the list of their trees, which only grows.
-#[derive(Drop)]
 pub struct Expr {
     alloc: Global,
     nodes: Vec<Node>,
@@ -195,5 +194,12 @@ impl Expr {
         ensures ordered { IsOrdered result.now }
     {
         &self.nodes
+    }
+}
+
+impl Drop for Expr {
+    fn drop(self) {
+        let Expr { alloc: _, nodes } = self;
+        drop(nodes);
     }
 }

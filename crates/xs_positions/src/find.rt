@@ -26,7 +26,6 @@ pub enum PositionsError {
 }
 
 /// The positions of an expression, numbered from 0: the copies of its symbols.
-#[derive(Drop)]
 pub struct Positions {
     symbols: Vec<u32>,
     /// The sets without the rows of followers.
@@ -167,4 +166,17 @@ fn list_positions(
         sets,
         follow,
     })
+}
+
+impl Drop for Positions {
+    fn drop(self) {
+        let Positions {
+            symbols,
+            sets,
+            follow,
+        } = self;
+        drop(symbols);
+        drop(sets);
+        drop(follow);
+    }
 }

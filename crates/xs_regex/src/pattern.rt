@@ -17,7 +17,6 @@ use std::marker::Model;
 use std::rc::Rc;
 
 /// A regular expression, ready to match texts. Contracts see its term.
-#[derive(Drop)]
 pub struct Pattern {
     /// Shared by the copies of the pattern.
     program: Rc<Program>,
@@ -107,5 +106,18 @@ impl Pattern {
         ensures same { self.new ≡ self.old }
     {
         self.program.run(&mut self.live, &mut self.next, text)
+    }
+}
+
+impl Drop for Pattern {
+    fn drop(self) {
+        let Pattern {
+            program,
+            live,
+            next,
+        } = self;
+        drop(program);
+        drop(live);
+        drop(next);
     }
 }

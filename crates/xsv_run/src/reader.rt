@@ -129,11 +129,4 @@ impl Reader {
             Err(why) => Err(why),
         }
     }
-
-    /// Lets go of it.
-    pub fn close(self) {
-        let Reader { listing, stream } = self;
-        stream.close();
-        drop(listing);
-    }
 }

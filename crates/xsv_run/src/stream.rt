@@ -12,6 +12,7 @@ use crate::Status;
 use crate::piece::{ENOUGH, Piece, take_piece};
 use crate::reader::Reader;
 use std::alloc::Global;
+use std::mem::ManuallyDrop;
 use stream_answers::{Wanted, places_answer_sections};
 use xsv_io::{Sink, Source};
 use xsv_steps::{Ledger, Steps};
@@ -61,6 +62,7 @@ pub fn answer_stream<S: Source, W: Sink, L: Ledger>(
     // The reader is held here, where there is one way out, and the loop only changes it.
     let mut reader = Reader::new(alloc, wanted);
     let status = take_pieces(alloc, source, &mut reader, sink, steps);
-    reader.close();
+    // The program ends behind this, and its memory with it: to let go of each node and each record would take a tenth of the time.
+    let _left = ManuallyDrop::new(reader);
     status
 }

@@ -1,7 +1,7 @@
 -- What is kept while the documents of a set are read.
 use Rattle.std.specs.Prelude.{◌≡◌, ℕ, ◌+◌, List, [], ◌∷◌, ◌++◌, Option, Some, length, reverse, slice_get, slice_index_or, nat_eq}
 use Rattle.std.specs.Option.{unwrap_or}
-use Rattle.indexmap.specs.IndexMap.{get}
+use Rattle.std.specs.HashMap.{get}
 use Rattle.xs_names.specs.Names.{NameTable, Grown}
 use Rattle.xs_names.specs.Scope.{first_scope}
 use Rattle.schema_shape.specs.declared.forms.Shape.{Shape}

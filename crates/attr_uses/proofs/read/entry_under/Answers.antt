@@ -1,5 +1,5 @@
 use Rattle.std.proofs.Common.{◌<◌, ◌-◌, length, arith, ap, sym, subst, ◌∙◌}
-use Rattle.attr_uses.specs.Nodes.{node_at, node_left, node_right, find}
+use Rattle.attr_uses.specs.Nodes.{node_at, node_right, find}
 use Rattle.attr_uses.proofs.CallLaws.{found-lower, found-upper}
 use Rattle.attr_uses.proofs.read.entry_under.Goals as goal
 
@@ -7,7 +7,7 @@ pub loop-levels-preserved-then-rest-half : goal.loop-levels-preserved-then-rest-
 loop-levels-preserved-then-rest-half c =
     let inv = c.loop-levels.invariant in
     let are = c.requires.nodes in
-    let side = ap (λ p. p.0) c.sides-left.ensures ∙ ap node_left c.node_of.ensures in
+    let side = ap (λ p. p.0) c.sides_at-left.ensures in
     record {
       few = omega arith;
       there = subst (λ n. n < length c.args.nodes.now) (sym side) (are.each c.loop-levels.at inv.there).left;
@@ -19,7 +19,7 @@ pub loop-levels-preserved : goal.loop-levels-preserved
 loop-levels-preserved c =
     let inv = c.loop-levels.invariant in
     let are = c.requires.nodes in
-    let side = ap (λ p. p.1) c.sides-left.ensures ∙ ap node_right c.node_of.ensures in
+    let side = ap (λ p. p.1) c.sides_at-left.ensures in
     record {
       few = omega arith;
       there = subst (λ n. n < length c.args.nodes.now) (sym side) (are.each c.loop-levels.at inv.there).right;

@@ -10,7 +10,7 @@ pub loop-element-init : goal.loop-element-init
 loop-element-init c =
     let elements = c.args.children.0.now in
     let terms = c.args.children.1.now in
-    subst (AreUpTo (IsGivenAt c.args.set.now c.args.doc.now c.args.parent.now terms) elements 0) (sym c.new-pairs.ensures.items)
+    subst (AreUpTo (IsGivenAt c.args.set.now c.args.doc.now c.args.parent.now terms) elements 0) (sym c.in_ok-pairs.ensures.items)
     (none-yet (IsGivenAt c.args.set.now c.args.doc.now c.args.parent.now terms) elements)
 
 pub loop-element-preserved : goal.loop-element-preserved

@@ -14,16 +14,16 @@ put_all-requires-in-loop-p-clause-fits c =
 pub loop-p-init : goal.loop-p-init
 loop-p-init c = elim c.if-starts.branch [
   | then-starts+in_ok-put_all w ↦ record {
-      members = rw w.next-is (rw w.if-starts.true (come_first c.args.form.now.table c.args.set.now (Contains w.put_all.new.list.items) w.first.result.now w.first.ensures
-          (rw c.new-next.ensures.items at w.in_ok-put_all.ensures.members)));
-      listed = rw w.flags-is (rw w.next-is w.in_ok-put_all.ensures.listed);
-      count = rw w.flags-is (let l = c.in_ok-flags.ensures.len in let n = c.count.ensures in let m = w.in_ok-put_all.ensures.count in omega arith);
-    }
+    members = rw w.next-is (rw w.if-starts.true (come_first c.args.form.now.table c.args.set.now (Contains w.put_all.new.list.items) w.first.result.now w.first.ensures
+        (rw c.new-next.ensures.items at w.in_ok-put_all.ensures.members)));
+    listed = rw w.flags-is (rw w.next-is w.in_ok-put_all.ensures.listed);
+    count = rw w.flags-is (let l = c.in_ok-flags.ensures.len in let n = c.count.ensures in let m = w.in_ok-put_all.ensures.count in omega arith);
+  }
   | else-starts w ↦ record {
-      members = rw w.next-is (rw c.new-next.ensures.items (rw w.if-starts.false (come_none c.args.form.now.table c.args.set.now)));
-      listed = rw w.flags-is (rw w.next-is (rw (c.in_ok-flags.ensures.items_if_clones_equal (λ y e. e)) (rw c.new-next.ensures.items (none_listed _))));
-      count = rw w.flags-is (let l = c.in_ok-flags.ensures.len in let n = c.count.ensures in omega arith);
-    }
+    members = rw w.next-is (rw c.new-next.ensures.items (rw w.if-starts.false (come_none c.args.form.now.table c.args.set.now)));
+    listed = rw w.flags-is (rw w.next-is (rw (c.in_ok-flags.ensures.items_if_clones_equal (λ y e. e)) (rw c.new-next.ensures.items (none_listed _))));
+    count = rw w.flags-is (let l = c.in_ok-flags.ensures.len in let n = c.count.ensures in omega arith);
+  }
 ]
 
 pub loop-p-preserved : goal.loop-p-preserved

@@ -11,7 +11,7 @@ name_attribute-requires c = namespace_at c.args.attributes.now c.loop-attribute.
 pub loop-attribute-init : goal.loop-attribute-init
 loop-attribute-init c =
     let t = c.args.names.now in
-    subst (λ made. AttributesSoFar t t made []) (sym c.new-made.ensures) (record { has = record { known = λ k d l. absurd (omega (arith, l)); are = refl }; grown = Grown-refl t; sound = c.requires.sound; known = λ h. refl })
+    subst (λ made. AttributesSoFar t t made []) (sym (c.from_vec-made.ensures ∙ c.in_ok-with_capacity.ensures.items)) (record { has = record { known = λ k d l. absurd (omega (arith, l)); are = refl }; grown = Grown-refl t; sound = c.requires.sound; known = λ h. refl })
 
 pub loop-attribute-preserved : goal.loop-attribute-preserved
 loop-attribute-preserved c =

@@ -9,7 +9,7 @@ use Rattle.doc_changes.proofs.naming.name_bindings.Goals as goal
 pub loop-binding-init : goal.loop-binding-init
 loop-binding-init c =
     let t = c.args.names.now in
-    subst (λ made. BindingsSoFar t t made []) (sym c.new-made.ensures) (record { has = record { known = λ k d l. absurd (omega (arith, l)); are = refl }; grown = Grown-refl t; sound = c.requires.sound; known = λ h. refl })
+    subst (λ made. BindingsSoFar t t made []) (sym (c.from_vec-made.ensures ∙ c.in_ok-with_capacity.ensures.items)) (record { has = record { known = λ k d l. absurd (omega (arith, l)); are = refl }; grown = Grown-refl t; sound = c.requires.sound; known = λ h. refl })
 
 pub loop-binding-preserved : goal.loop-binding-preserved
 loop-binding-preserved c =

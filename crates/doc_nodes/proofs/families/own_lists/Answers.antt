@@ -10,7 +10,7 @@ pub returns-in_err-items-clause-keeps : goal.returns-in_err-items-clause-keeps
 returns-in_err-items-clause-keeps c = λ q live. refl
 
 pub push_lists-requires : goal.push_lists-requires
-push_lists-requires c = c.new-hung.ensures.items
+push_lists-requires c = c.in_ok-hung.ensures.items
 
 pub returns-in-Ok-clause-ok : goal.returns-in-Ok-clause-ok
 returns-in-Ok-clause-ok c =

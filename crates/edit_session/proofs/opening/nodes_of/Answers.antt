@@ -8,7 +8,7 @@ use Rattle.edit_session.proofs.opening.nodes_of.Goals as goal
 pub returns-clause-usable : goal.returns-clause-usable
 returns-clause-usable c =
     let set = c.args.set.now in
-    let f = c.args.tree.now.forest in
+    let f = c.args.tree.forest in
     let has = subst (λ (t : NameTable). HasNames t f) (sym c.in_ok-add_names.ensures.table) (c.document_names_are_found.ensures.found set.names f) in
     let same = c.from_plain.ensures.known c.add_names.ensures.sound has in
     on-ok c.from_plain.result

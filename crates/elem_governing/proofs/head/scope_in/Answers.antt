@@ -1,4 +1,4 @@
-use Rattle.std.proofs.Common.{◌∙◌}
+use Rattle.std.proofs.Common.{refl, ◌∙◌}
 use Rattle.elem_governing.proofs.Tags.{space_asked, scope_next}
 use Rattle.elem_governing.proofs.head.scope_in.Goals as goal
 
@@ -11,7 +11,7 @@ pub loop-binding-preserved : goal.loop-binding-preserved
 loop-binding-preserved c =
     let l = c.loop-binding in
     record {
-      scope = scope_next c.args.names.now l.names c.args.bindings.now l.binding-index c.binding-item.result l.scope c.bind.new.self c.as_str.result.now c.as_str-in-loop-binding.result.now c.in_ok-space.space l.invariant.same
-          c.loop-binding-test.true c.binding-item.is c.as_str.ensures c.as_str-in-loop-binding.ensures c.in_ok-space.ensures.number c.in_ok-bind.ensures.ok ∙ l.invariant.scope;
+      scope = scope_next c.args.names.now l.names c.args.bindings.now l.binding-index c.binding-item.result l.scope c.bind.new.self c.as_str.result.now c.binding-item.result.prefix c.in_ok-space.space l.invariant.same
+          c.loop-binding-test.true c.binding-item.is c.as_str.ensures refl c.in_ok-space.ensures.number c.in_ok-bind.ensures.ok ∙ l.invariant.scope;
       same = c.known_space.ensures.same ∙ l.invariant.same;
     }

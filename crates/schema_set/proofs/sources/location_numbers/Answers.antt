@@ -1,7 +1,7 @@
 use Rattle.std.proofs.Common.{◌≡◌, Some, None, take, take_all, ap, ◌∙◌, bytes_eq, if◌then◌else◌, arith}
 use Rattle.std.specs.List.{list_any}
 use Rattle.std.specs.Option.{option_or}
-use Rattle.indexmap.specs.IndexMap.{get_by_text}
+use Rattle.std.specs.HashMap.{get_by_text}
 use Rattle.xs_names.specs.WhiteSpace.{collapsed}
 use Rattle.schema_set.proofs.LocationLaws.{documents-more}
 use Rattle.schema_set.proofs.sources.location_numbers.Goals as goal

@@ -1,5 +1,5 @@
 use Rattle.std.proofs.Common.{◌≡◌, ◌+◌, ℕ, List, take}
-use Rattle.indexmap.specs.IndexMap.{get_by_text}
+use Rattle.std.specs.HashMap.{get_by_text}
 use Rattle.xs_names.specs.WhiteSpace.{collapsed}
 use Rattle.schema_set.specs.EffectiveSet.{document_at}
 use Rattle.schema_set.proofs.sources.location_numbers.Given as goal

@@ -1,5 +1,5 @@
 use Rattle.std.proofs.Common.{◌∙◌}
-use Rattle.indexmap.specs.IndexMap.{get_by_text}
+use Rattle.std.specs.HashMap.{get_by_text}
 use Rattle.schema_set.proofs.LocationLaws.{noted-first, noted-again}
 use Rattle.schema_set.proofs.sources.note.Goals as goal
 

@@ -1,5 +1,5 @@
 use Rattle.std.proofs.Common.{◌≡◌, take, take_all, bytes_eq, arith}
-use Rattle.indexmap.specs.IndexMap.{get_by_text}
+use Rattle.std.specs.HashMap.{get_by_text}
 use Rattle.xs_names.specs.WhiteSpace.{collapsed}
 use Rattle.schema_set.proofs.LocationLaws.{locations-none, locations-more}
 use Rattle.schema_set.proofs.sources.note_locations.Goals as goal

@@ -16,7 +16,6 @@ loop-binding-preserved c =
     let i = c.loop-binding.binding-index in
     let x = c.binding-item.result in
     let space : c.as_str.result.now ≡ x.namespace = search rules in
-    let prefix : c.as_str-in-loop-binding.result.now ≡ x.prefix = search rules in
     let grown = c.in_ok-ns.ensures.grown in
     record {
       table = table-more bindings_table (λ b v. with_space v b.namespace) (λ b bs v. refl) xs i x t u _ c.loop-binding-test.true c.binding-item.is
@@ -24,7 +23,7 @@ loop-binding-preserved c =
       bound = λ later h.
           let number = space-later u (Some x.namespace) c.as_str.result.now c.in_ok-ns.ns space c.in_ok-ns.ensures.number later h in
           table-more (bound later) (λ b s. (b.prefix, space_in later (Some b.namespace)) ∷ s) (λ b bs s. refl) xs i x c.loop-binding.scope c.bind.new.self _
-          c.loop-binding-test.true c.binding-item.is (c.in_ok-bind.ensures.ok ∙ (λ j. (prefix j, number j) ∷ c.loop-binding.scope))
+          c.loop-binding-test.true c.binding-item.is (c.in_ok-bind.ensures.ok ∙ (λ j. (x.prefix, number j) ∷ c.loop-binding.scope))
           (c.loop-binding.invariant.bound later (Grown-trans t u later grown h));
       grown = Grown-trans _ t u c.loop-binding.invariant.grown grown;
     }

@@ -3,7 +3,7 @@ use Rattle.tag_names.proofs.TableLaws.{restored}
 use Rattle.tag_names.proofs.prefixes.restore.Goals as goal
 
 pub returns-in-None : goal.returns-in-None
-returns-in-None c = restored c.args.latest.now c.swap_remove.new.self c.args.prefix.now None c.args.hidden c.in-None.is c.swap_remove.ensures.updates
+returns-in-None c = restored c.args.latest.now c.remove.new.self c.args.prefix.now None c.args.hidden c.in-None.is c.remove.ensures.updates
 
 pub returns-in-Some-get_mut : goal.returns-in-Some-get_mut
 returns-in-Some-get_mut c =

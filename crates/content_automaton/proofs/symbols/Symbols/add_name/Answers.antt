@@ -1,8 +1,11 @@
 use Rattle.std.proofs.Common.{arith}
-use Rattle.content_automaton.proofs.Adding.{item_kept}
+use Rattle.content_automaton.proofs.Adding.{item_kept, item_there}
 use Rattle.content_automaton.proofs.symbols.Symbols.add_name.Goals as goal
 
 pub invariant_of-self-2 : goal.invariant_of-self-2
 invariant_of-self-2 c =
-    let k = item_kept c.self.inside.names.keys c.args.name.now c.insert.new.self.keys c.self.invariant.2 c.in_ok-insert.ensures.keys (let l = c.if-len-ge-MOST.false in omega arith) in
+    let k = item_kept c.self.inside.names c.args.name.now c.insert.new.self c.self.invariant.2 c.in_ok-insert.ensures.keys (let l = c.if-len-ge-MOST.false in omega arith) in
     (k.0, c.self.invariant.1, k.1, c.self.invariant.3)
+
+pub returns-then-is_some-clause-names : goal.returns-then-is_some-clause-names
+returns-then-is_some-clause-names c = rw (← c.self.view_is) (item_there c.self.inside.names c.args.name.now c.get_index_of.result c.get_index_of.ensures.index c.if-is_some.ensures)

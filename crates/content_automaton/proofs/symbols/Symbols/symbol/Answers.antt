@@ -15,7 +15,7 @@ returns-in-Some-get_index_of-clause-symbol c =
     sym (symbol_space c.args.names.now c.args.self.now c.ns-space.ensures.sound.names_once c.requires.within c.args.name c.requires.name c.in-Some-get_index_of.found
     (subst (λ (s : SymbolTable). None ≡ position (λ m. c.args.name == m) s.names) c.self.view_is c.in_default.ensures.index)
     (subst (λ (s : SymbolTable). Some c.in-Some-get_index_of.found ≡ position (λ m. space_of c.args.names.now c.args.name == m) s.spaces) c.self.view_is
-    (subst (λ (ns : ℕ). Some c.in-Some-get_index_of.found ≡ position (λ m. ns == m) c.self.inside.spaces.keys) c.ns-space.ensures.value c.in-Some-get_index_of.ensures.index)))
+    (subst (λ (ns : ℕ). Some c.in-Some-get_index_of.found ≡ position (λ m. ns == m) c.self.inside.spaces) c.ns-space.ensures.value c.in-Some-get_index_of.ensures.index)))
 
 pub returns-clause-symbol : goal.returns-clause-symbol
 returns-clause-symbol c =
@@ -24,7 +24,7 @@ returns-clause-symbol c =
     sym (symbol_last c.args.names.now c.args.self.now c.ns-space.ensures.sound.names_once c.requires.within c.args.name c.requires.name
     (subst (λ (s : SymbolTable). None ≡ position (λ m. c.args.name == m) s.names) c.self.view_is c.in_default.ensures.index)
     (subst (λ (s : SymbolTable). None ≡ position (λ m. space_of c.args.names.now c.args.name == m) s.spaces) c.self.view_is
-    (subst (λ (ns : ℕ). None ≡ position (λ m. ns == m) c.self.inside.spaces.keys) c.ns-space.ensures.value c.in_default-get_index_of.ensures.index))))
+    (subst (λ (ns : ℕ). None ≡ position (λ m. ns == m) c.self.inside.spaces) c.ns-space.ensures.value c.in_default-get_index_of.ensures.index))))
 
 pub returns-in-Some-clause-grown : goal.returns-in-Some-clause-grown
 returns-in-Some-clause-grown c = λ old g within. symbol_grown old c.args.names.now c.args.self.now g within

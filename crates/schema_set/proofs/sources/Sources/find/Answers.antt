@@ -1,5 +1,5 @@
 use Rattle.std.proofs.Common.{◌≡◌, ap, ◌∙◌}
-use Rattle.indexmap.specs.IndexMap.{get_by_text}
+use Rattle.std.specs.HashMap.{get_by_text}
 use Rattle.schema_set.specs.EffectiveSet.{document_at}
 use Rattle.schema_set.proofs.LocationLaws.{found-number}
 use Rattle.schema_set.proofs.sources.Sources.find.Goals as goal

@@ -1,21 +1,23 @@
-use Rattle.std.proofs.Common.{◌≡◌, List, sym, ap, subst, ◌∙◌}
+use Rattle.std.proofs.Common.{◌≡◌, ℕ, List, sym, subst}
+use Rattle.std.proofs.lemmas.Result.{IfOk-weaker}
+use Rattle.xs_components.specs.declared.common.TypeId.{TypeId}
 use Rattle.xs_components.specs.declared.common.TypeId.TheVariants as types
-use Rattle.facets.specs.declared.facets.Facets.{Facets}
+use Rattle.facets.specs.Literal.{IsBuiltinRead}
 use Rattle.simple_types.specs.Trees.{type_tree}
-use Rattle.simple_types.specs.SimpleValidity.{IsMade}
 use Rattle.simple_types.specs.declared.judged.JudgedType.{JudgedType}
-use Rattle.simple_types.specs.Lookup.{content_of}
-use Rattle.simple_types.specs.SimpleTypes.{IsWhole}
+use Rattle.simple_types.specs.SimpleTypes.{IsWhole, IsValueOf}
 use Rattle.simple_types.specs.inside.Numbers.{IsMadeAt}
-use Rattle.simple_types.proofs.InForce.{type_is_made, simple_is_made, content_is_made}
+use Rattle.simple_types.proofs.BuiltIns.{built_in_value}
+use Rattle.simple_types.proofs.InForce.{simple_is_made, content_is_made}
 use Rattle.simple_types.proofs.types.SimpleTypes.validate.Goals as goal
 
 pub returns-in-Builtin-clause-value : goal.returns-in-Builtin-clause-value
 returns-in-Builtin-clause-value c = λ t ranked are whole.
-    let types_of = c.args.self.now in
-    let by_kind : (content_of types_of.simples types_of.complexes c.args.of).facets ≡ c.of_builtin-facets.result =
-    ap (λ of. (content_of types_of.simples types_of.complexes of).facets) c.in-Builtin.is ∙ sym c.of_builtin-facets.ensures in
-    c.value_by.ensures (type_tree t c.args.of) (subst (λ (f : Facets). IsMade (type_tree t c.args.of) f) by_kind (type_is_made t ranked types_of are c.args.of whole))
+    let text : List ℕ = c.args.text.now in
+    IfOk-weaker c.read_builtin.result (IsBuiltinRead c.in-Builtin.kind c.args.scope.now text) (IsValueOf (type_tree t c.args.of) c.args.scope.now text)
+    (λ outcome read. subst (λ of. IsValueOf (type_tree t of) c.args.scope.now text outcome) (sym c.in-Builtin.is)
+    (built_in_value t ranked c.in-Builtin.kind c.args.scope.now text outcome read))
+    c.read_builtin.ensures
 
 pub returns-in-Simple-clause-value : goal.returns-in-Simple-clause-value
 returns-in-Simple-clause-value c = λ t ranked are whole.

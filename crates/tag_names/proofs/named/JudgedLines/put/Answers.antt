@@ -1,7 +1,7 @@
 use Rattle.std.proofs.Common.{◌++◌, ap, ◌∙◌}
 use Rattle.std.specs.Option.{option_copied}
 use Rattle.tag_names.specs.Faults.{is_no_qname}
-use Rattle.tag_names.specs.Resolving.{judged_attribute, lines_with}
+use Rattle.tag_names.specs.Resolving.{lines_with}
 use Rattle.tag_names.specs.Scopes.{own_of}
 use Rattle.tag_names.proofs.TagLaws.{lines-more, lines-bound}
 use Rattle.tag_names.proofs.named.JudgedLines.put.Goals as goal
@@ -16,4 +16,4 @@ pub returns-in_ok-put_attribute-in-None : goal.returns-in_ok-put_attribute-in-No
 returns-in_ok-put_attribute-in-None c =
     λ more. lines-more (own_of (option_copied c.args.own) ++ c.args.scope.now) c.args.self.now c.put_attribute.new.self c.args.line.now c.in_ok-judged-in-None.judged
     c.in-None.ensures c.in_ok-put_attribute-in-None.ensures
-    (c.in_ok-judged-in-None.ensures ∙ ap (judged_attribute (own_of (option_copied c.args.own) ++ c.args.scope.now)) c.as_str-name.ensures) more
+    c.in_ok-judged-in-None.ensures more

@@ -1,5 +1,5 @@
 use Rattle.std.proofs.Common.{◌∙◌, ap, arith}
-use Rattle.indexmap.specs.IndexMap.{get_by_text}
+use Rattle.std.specs.HashMap.{get_by_text}
 use Rattle.tag_names.proofs.TableLaws.{IsTable-bound}
 use Rattle.tag_names.proofs.prefixes.Prefixes.bind.Goals as goal
 

@@ -1,8 +1,11 @@
-use Rattle.std.proofs.Common.{◌≡◌, refl, bytes_eq, Some, []}
+use Rattle.std.proofs.Common.{◌≡◌, refl, bytes_eq, length, Some, [], sym, ap, ◌∙◌, arith}
+use Rattle.std.proofs.lemmas.Bool.{eqb-true}
+use Rattle.std.proofs.lemmas.List.{nil_from_length}
 use Rattle.xs_names.specs.Numbering.{number_of, with_item}
 use Rattle.xs_names.specs.Names.{xml_name}
+use Rattle.xs_names.proofs.AbsentLaws.{empty-number, empty-there}
 use Rattle.xs_names.proofs.KeptLaws.{IsSound-IsKept, IsKept-space, first_number}
-use Rattle.xs_names.proofs.GrownLaws.{Grown-with_space}
+use Rattle.xs_names.proofs.GrownLaws.{Grown-refl, Grown-with_space, two_spaces}
 use Rattle.std.proofs.lemmas.Slice.Eq.{bytes_eq-Decides}
 use Rattle.xs_names.proofs.NumberingLaws.{within-number_of}
 use Rattle.xs_names.proofs.names.Names.namespace_id.Goals as goal
@@ -33,3 +36,32 @@ returns-clause-xml c =
 
 pub returns-clause-within : goal.returns-clause-within
 returns-clause-within c = within-number_of bytes_eq bytes_eq-Decides _ c.args.name.now c.in_ok-insert.field-0 c.in_ok-insert.ensures.number
+
+pub returns-then-is_empty-clause-sound : goal.returns-then-is_empty-clause-sound
+returns-then-is_empty-clause-sound c = IsSound-IsKept _ _ _ c.self.invariant
+
+pub returns-then-is_empty-clause-number : goal.returns-then-is_empty-clause-number
+returns-then-is_empty-clause-number c =
+    let empty = nil_from_length c.args.name.now (eqb-true _ _ (sym c.is_empty.ensures ∙ c.if-is_empty.true)) in
+    empty-number _ _ empty (returns-then-is_empty-clause-sound c)
+
+pub returns-then-is_empty-clause-table : goal.returns-then-is_empty-clause-table
+returns-then-is_empty-clause-table c =
+    let empty = nil_from_length c.args.name.now (eqb-true _ _ (sym c.is_empty.ensures ∙ c.if-is_empty.true)) in
+    rw (← c.self.view_is) (empty-there _ _ empty (returns-then-is_empty-clause-sound c))
+
+pub returns-then-is_empty-clause-within : goal.returns-then-is_empty-clause-within
+returns-then-is_empty-clause-within c = omega (arith, two_spaces _ (returns-then-is_empty-clause-sound c))
+
+pub returns-then-is_empty-clause-absent : goal.returns-then-is_empty-clause-absent
+returns-then-is_empty-clause-absent c =
+    let empty = nil_from_length c.args.name.now (eqb-true _ _ (sym c.is_empty.ensures ∙ c.if-is_empty.true)) in
+    ((λ e. empty), (λ e. refl))
+
+pub returns-then-is_empty-clause-xml : goal.returns-then-is_empty-clause-xml
+returns-then-is_empty-clause-xml c =
+    let empty = nil_from_length c.args.name.now (eqb-true _ _ (sym c.is_empty.ensures ∙ c.if-is_empty.true)) in
+    ((λ e. absurd (omega (arith, e))), (λ e. absurd (omega (arith, ap length (sym empty ∙ e)))))
+
+pub returns-then-is_empty-clause-grown : goal.returns-then-is_empty-clause-grown
+returns-then-is_empty-clause-grown c = rw (← c.self.view_is) (Grown-refl _)
